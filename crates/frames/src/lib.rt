@@ -1,0 +1,2 @@
+// The frames of records: bytes of a record that a power cut cannot mistake for another's.
+pub mod write;
