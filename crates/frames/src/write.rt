@@ -15,6 +15,9 @@ use records::Record;
 
 const CLOSING: u8 = 0x5A;
 
+// The bytes of the largest frame, an interval's.
+pub const LARGEST: usize = 53;
+
 // How many bytes the frame of `record` has.
 pub fn frame_size(record: &Record) -> usize
     ensures { λ r. ⌜ r ≡ size (now («record» .entry)) ⌝ }
