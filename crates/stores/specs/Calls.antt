@@ -1,0 +1,83 @@
+-- What each call of a store answers, and the store after it.
+use Prim.Native.Nat.{ℕ, _+_, _-_}
+use mathlib.Core.Bool.{Bool, true, false, cond}
+use mathlib.Core.List.{List, [], _∷_, _++_}
+use lib.Dec.{eqb, leb}
+use lib.ListN.{take, getD}
+use Rattle.std.specs.Options.{valueOr}
+use Rattle.std.specs.Results.{okPart}
+use Rattle.std.specs.declared.option.Option.{Option}
+use Rattle.std.specs.declared.option.Option.the-variants.{None, Some}
+use Rattle.std.specs.declared.result.Result.{Result}
+use Rattle.std.specs.declared.result.Result.the-variants.{Ok, Err}
+use Rattle.records.specs.declared.Record.{Record}
+use Rattle.stores.specs.Meaning.{Meaning, count}
+
+-- an answer, its refusal by the number, and the store after it
+abbrev pub Outcome : Type 0 → Type 0
+Outcome T = Result T ℕ × Meaning
+
+abbrev pub with-fuse : Option ℕ → Meaning → Meaning
+with-fuse k m =
+  record { records = m .records; capacity = m .capacity; safe = m .safe; alive = m .alive; fuse = k }
+
+abbrev pub with-life : Bool → Meaning → Meaning
+with-life b m =
+  record { records = m .records; capacity = m .capacity; safe = m .safe; alive = b; fuse = m .fuse }
+
+abbrev pub with-records : List Record → Meaning → Meaning
+with-records xs m =
+  record { records = xs; capacity = m .capacity; safe = m .safe; alive = m .alive; fuse = m .fuse }
+
+abbrev pub all-safe : Meaning → Meaning
+all-safe m =
+  record { records = m .records; capacity = m .capacity; safe = count m; alive = m .alive; fuse = m .fuse }
+
+-- a change that the fuse may cut off: with fuse 0 the store dies, the fuse becomes unset and the refusal is 40;
+-- else a set fuse falls by 1 and the change is made
+abbrev pub powered : (Meaning → Meaning) → Meaning → Option ℕ → Outcome (Unit {0})
+powered change m None = (Ok tt, change m)
+powered change m (Some k) =
+  cond (eqb k 0) (Err 40, with-life false (with-fuse None m)) (Ok tt, change (with-fuse (Some (k - 1)) m))
+
+-- refused 40 when dead and 41 when full, which is at or above the capacity
+abbrev pub appended : Record → Meaning → Outcome (Unit {0})
+appended x m =
+  cond (m .alive)
+  (cond (leb (m .capacity) (count m)) (Err 41, m)
+    (powered (λ n. with-records (n .records ++ x ∷ []) n) m (m .fuse)))
+  (Err 40, m)
+
+abbrev pub synced : Meaning → Outcome (Unit {0})
+synced m = cond (m .alive) (powered all-safe m (m .fuse)) (Err 40, m)
+
+-- dead or alive
+abbrev pub armed : ℕ → Meaning → Meaning
+armed k m = with-fuse (Some k) m
+
+-- record i, counted from 1, and the place that it is read into, which a refusal leaves as it was
+abbrev pub fetched : ℕ → Meaning → Record → Result (Unit {0}) ℕ × Record
+fetched i m place =
+  cond (m .alive)
+  (cond (eqb i 0) (Err 42, place)
+    (cond (leb i (count m)) (Ok tt, getD (m .records) (i - 1) place) (Err 42, place)))
+  (Err 40, place)
+
+-- the records that are not safe
+abbrev pub unsafe-count : Meaning → ℕ
+unsafe-count m = count m - m .safe
+
+-- refused 43 when alive; else all safe records and the first `kept` of the others remain, all safe,
+-- and the fuse stays: `kept` is the store's choice and its answer
+abbrev pub revived : ℕ → Meaning → Outcome ℕ
+revived kept m =
+  cond (m .alive) (Err 43, m)
+  (Ok kept, all-safe (with-life true (with-records (take (m .safe + kept) (m .records)) m)))
+
+-- what a revive answered that it kept of the others: 0 where it was refused
+abbrev pub kept : {E : Type 0} → Result ℕ E → ℕ
+kept r = valueOr (okPart r) 0
+
+-- how many records the store has room for yet: none where it holds as many as its capacity, or more
+abbrev pub room : Meaning → ℕ
+room m = m .capacity - count m

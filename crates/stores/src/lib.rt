@@ -1,0 +1,4 @@
+// Stores: what keeps records over a loss of power.
+pub mod fault;
+pub mod slots;
+pub mod store;
