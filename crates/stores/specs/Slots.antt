@@ -1,20 +1,25 @@
 -- What the slot store means by its fields: every combination of them means some store.
 use Prim.Native.Nat.{ℕ, _+_, min}
 use mathlib.Core.Bool.{true}
-use mathlib.Core.List.{[]}
-use Rattle.std.specs.declared.option.Option.the-variants.{None}
+use mathlib.Core.List.{List, []}
 use lib.ListN.{length, take}
+use Rattle.std.specs.declared.option.Option.the-variants.{None}
+use Rattle.records.specs.declared.Record.{Record}
 use Rattle.stores.specs.Meaning.{Meaning}
+use Rattle.stores.specs.declared.power.Power.{Power}
 use Rattle.stores.specs.declared.slots.SlotStore.{SlotStore}
 
-abbrev pub means : SlotStore → Meaning
-means s = record {
-  records = take (s .safe + s .pending) (s .slots .now);
-  capacity = min (length (s .slots .now)) 4096;
-  safe = min (s .safe) (length (s .slots .now));
-  alive = s .alive;
-  fuse = s .fuse
+abbrev pub laid : List Record → ℕ → ℕ → Power → Meaning
+laid slots safe pending power = record {
+  records = take (safe + pending) slots;
+  capacity = min (length slots) 4096;
+  safe = min safe (length slots);
+  alive = power .alive;
+  fuse = power .fuse;
 }
+
+abbrev pub means : SlotStore → Meaning
+means s = laid (s .slots .now) (s .safe) (s .pending) (s .power)
 
 -- a store as it is made over so many slots: empty, alive and with no fuse
 abbrev pub empty : ℕ → Meaning

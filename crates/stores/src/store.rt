@@ -3,15 +3,13 @@ ghost use mathlib.Core.Path.{_≡_};
 ghost use Prim.Native.Nat.{_≤_};
 ghost use Rattle.stores.specs.Calls.{appended, synced, armed, fetched, revived, kept, unsafe-count, room};
 ghost use Rattle.stores.specs.Faults.{answer};
-ghost use Rattle.stores.specs.Meaning.{Meaning, Sound};
+ghost use Rattle.stores.specs.Meaning.{Meaning};
 ghost use lib.ListN.{length};
 use crate::fault::Fault;
 use records::Record;
 
 pub trait Store {
     ghost means: { Self → Meaning };
-
-    law sound: { (s : Self) → Sound (means s) };
 
     // One record more, which is not safe yet.
     fn append(&mut self, record: Record) -> Result<(), Fault>
@@ -39,18 +37,20 @@ pub trait Store {
         ensures { λ r. ⌜ r ≡ length (means (now (self .entry)) .records) ⌝ };
 
     fn capacity(&self) -> u64
-        ensures { λ r. ⌜ r ≡ means (now (self .entry)) .capacity ⌝ };
+        ensures value { λ r. ⌜ r ≡ means (now (self .entry)) .capacity ⌝ }
+        ensures bound { λ r. ⌜ r ≤ 4096 ⌝ };
 
     fn safe_count(&self) -> u64
-        ensures { λ r. ⌜ r ≡ means (now (self .entry)) .safe ⌝ };
+        ensures value { λ r. ⌜ r ≡ means (now (self .entry)) .safe ⌝ }
+        ensures bound { λ r. ⌜ r ≤ length (means (now (self .entry)) .records) ⌝ };
 
     fn is_alive(&self) -> bool
         ensures { λ r. ⌜ r ≡ means (now (self .entry)) .alive ⌝ };
+}
 
-    // How many records it has room for yet.
-    fn free_slots(&self) -> u64
-        ensures { λ r. ⌜ r ≡ room (means (now (self .entry))) ⌝ }
-    {
-        self.capacity().saturating_sub(self.count())
-    }
+// How many records a store has room for yet.
+pub fn free_slots<S: Store>(store: &S) -> u64
+    ensures { λ r. ⌜ r ≡ room (S·Store .means (now (store .entry))) ⌝ }
+{
+    store.capacity().saturating_sub(store.count())
 }
