@@ -1,5 +1,6 @@
 -- How the slot store's meaning follows its fields.
 use Prim.Native.Nat.{ℕ, suc, _+_, _<_, _≤_, min}
+use mathlib.Core.Bool.{true, false}
 use mathlib.Core.List.{List, [], _∷_, _++_}
 use mathlib.Core.Path.{_≡_, refl, sym, ap, _∙_}
 use native.Mathlib.Nat.{add-zero}
@@ -8,10 +9,13 @@ use lib.ListN.{length, take, set, length-set}
 use lib.Seq.{take-suc-set}
 use Rattle.std.proofs.shelf.Lists.{length-take, take-take, take-all}
 use Rattle.records.specs.declared.Record.{Record}
+use Rattle.std.specs.declared.result.Result.the-variants.{Ok}
 use Rattle.stores.specs.declared.power.Power.{Power}
-use Rattle.stores.specs.Calls.{with-records, with-power, all-safe}
+use Rattle.stores.specs.declared.slots.SlotStore.{SlotStore}
+use Rattle.stores.proofs.Steps.{revive-done}
+use Rattle.stores.specs.Calls.{with-records, with-power, all-safe, revived, unsafe-count}
 use Rattle.stores.specs.Meaning.{Meaning}
-use Rattle.stores.specs.Slots.{laid}
+use Rattle.stores.specs.Slots.{laid, means}
 
 -- the slot after the list is written
 pub grown : (xs : List Record) (safe pending n : ℕ) (p q : Power) (x : Record) → n ≡ length (take (safe + pending) xs) → n < length xs →
@@ -44,3 +48,14 @@ pub settled : (xs : List Record) (safe pending n : ℕ) (p q : Power) → n ≡ 
 settled xs safe pending n p q e =
     cut xs safe pending n p q (omega arith)
     ∙ ap (λ rs. all-safe (with-power p (with-records rs (laid xs safe pending q)))) (take-all n _ (omega arith))
+
+-- the safe records and the first `kept` of the others remain
+pub kept-laid : (s : SlotStore) (safe kept : ℕ) → s .power .alive ≡ false → safe ≡ min (s .safe) (length (s .slots .now)) →
+    kept ≤ unsafe-count (means s) →
+    (Ok kept, laid (s .slots .now) (safe + kept) 0 (record { alive = true; fuse = s .power .fuse })) ≡ revived kept (means s)
+kept-laid s safe kept dead e h =
+    let xs = s .slots .now in
+    let power : Power = record { alive = true; fuse = s .power .fuse } in
+    let listed : safe + kept ≤ length (take (s .safe + s .pending) xs) = omega (arith, length-take (s .safe + s .pending) xs) in
+    ap (λ m. (Ok kept, m)) (cut xs (s .safe) (s .pending) (safe + kept) power (s .power) listed)
+    ∙ revive-done (means s) kept (safe + kept) dead (ap (λ k. k + kept) e)

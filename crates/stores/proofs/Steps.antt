@@ -2,9 +2,10 @@
 use Prim.Native.Nat.{ℕ, _+_, _-_, _<_, _≤_}
 use mathlib.Core.Bool.{true, false}
 use mathlib.Core.List.{[], _∷_, _++_}
+use lib.Dec.{eqb, ltb}
 use lib.ListN.{take, getD}
 use mathlib.Core.Path.{_≡_, refl, sym, ap, _∙_}
-use Rattle.std.proofs.shelf.Tests.{lt-leb, le-leb, ne-eqb}
+use Rattle.std.proofs.shelf.Tests.{lt-leb, le-ltb, ne-eqb, or-from}
 use Rattle.std.specs.declared.result.Result.the-variants.{Ok}
 use Rattle.records.specs.declared.Record.{Record}
 use Rattle.stores.specs.declared.power.Power.{Power}
@@ -32,6 +33,5 @@ revive-done m kept n dead e =
 pub read-done : (m : Meaning) (i : ℕ) (place x : Record) → m .alive ≡ true → (i ≡ 0 → ⊥) → i ≤ count m →
     x ≡ getD (m .records) (i - 1) place → (Ok tt, x) ≡ fetched i m place
 read-done m i place x alive some within e =
-    let not-0 = ne-eqb i 0 some in
-    let in-list = le-leb i (count m) within in
-    ap (λ y. (Ok tt, y)) e ∙ sym (rw (alive, not-0, in-list) refl)
+    let listed = or-from (eqb i 0) (ltb (count m) i) (ne-eqb i 0 some) (le-ltb (count m) i within) in
+    ap (λ y. (Ok tt, y)) e ∙ sym (rw (alive, listed) refl)

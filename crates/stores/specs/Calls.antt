@@ -1,8 +1,8 @@
 -- What each call of a store answers, and the store after it.
 use Prim.Native.Nat.{ℕ, _+_, _-_}
-use mathlib.Core.Bool.{Bool, true, false, cond}
+use mathlib.Core.Bool.{Bool, true, false, cond, _||_}
 use mathlib.Core.List.{List, [], _∷_, _++_}
-use lib.Dec.{eqb, leb}
+use lib.Dec.{eqb, leb, ltb}
 use lib.ListN.{take, getD}
 use Rattle.std.specs.Options.{valueOr}
 use Rattle.std.specs.Results.{okPart}
@@ -64,8 +64,7 @@ armed k m = with-power (record { alive = m .alive; fuse = Some k }) m
 abbrev pub fetched : ℕ → Meaning → Record → Result (Unit {0}) ℕ × Record
 fetched i m place =
     cond (m .alive)
-    (cond (eqb i 0) (Err 42, place)
-    (cond (leb i (count m)) (Ok tt, getD (m .records) (i - 1) place) (Err 42, place)))
+    (cond (eqb i 0 || ltb (count m) i) (Err 42, place) (Ok tt, getD (m .records) (i - 1) place))
     (Err 40, place)
 
 -- the records that are not safe

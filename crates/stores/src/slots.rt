@@ -1,20 +1,16 @@
 // The slot store: records in the slots of a lent slice, one to a slot.
 ghost use mathlib.Core.Path.{_≡_};
-ghost use Prim.Native.Nat.{_≤_, _+_, min};
-ghost use mathlib.Core.Bool.{cond};
-ghost use lib.ListN.{length, set};
+ghost use Prim.Native.Nat.{_≤_, min};
+ghost use lib.ListN.{length};
 ghost use Rattle.std.specs.Results.{isOk};
-ghost use Rattle.std.specs.declared.result.Result.the-variants.{Ok, Err};
 ghost use Rattle.stores.specs.Calls.{appended, synced, armed, revived, kept, unsafe-count};
 ghost use Rattle.stores.specs.Faults.{answer};
-ghost use Rattle.stores.specs.Slots.{means as meaning, empty};
+ghost use Rattle.stores.specs.Slots.{means as meaning, empty, filled};
 use crate::fault::Fault;
 use crate::power::Power;
+use crate::store::MAX_CAPACITY;
 use crate::store::Store;
 use records::Record;
-
-// Slots beyond this many stay unused.
-pub const MOST: usize = 4096;
 
 #[derive(Drop)]
 pub struct SlotStore<'a> {
@@ -28,7 +24,8 @@ pub struct SlotStore<'a> {
 impl<'a> SlotStore<'a> {
     // An empty store with power and no fuse; what the slots held is never read.
     pub fn new(slots: &'a mut [Record]) -> SlotStore<'a>
-        ensures { λ r. ⌜ meaning r ≡ empty (length (now (slots .entry))) ⌝ ∗ ⌜ now (r .slots) ≡ now (slots .entry) ⌝ }
+        ensures value { λ r. ⌜ meaning r ≡ empty (length (now (slots .entry))) ⌝ }
+        ensures same { λ r. ⌜ now (r .slots) ≡ now (slots .entry) ⌝ }
     {
         SlotStore {
             slots,
@@ -51,14 +48,14 @@ pub impl Store for SlotStore<'_> as SlotStoreStore {
     ghost means = { meaning };
 
     fn append(&mut self, record: Record) -> Result<(), Fault>
-        ensures means { λ r. ⌜ (answer r, meaning (now (self .exit))) ≡ appended «record» (meaning (now (self .entry))) ⌝ }
-        ensures slots { λ r. ⌜ now (now (self .exit) .slots) ≡ cond (isOk r) (set (now (now (self .entry) .slots)) (length (meaning (now (self .entry)) .records)) «record») (now (now (self .entry) .slots)) ⌝ }
+        ensures after { λ r. ⌜ (answer r, meaning (now (self .exit))) ≡ appended «record» (meaning (now (self .entry))) ⌝ }
+        ensures slots { λ r. ⌜ now (now (self .exit) .slots) ≡ filled (now (self .entry)) «record» (isOk r) ⌝ }
     {
         let count = self.len();
         if !self.power.alive {
             return Err(Fault::Dead);
         }
-        if count >= self.slots.len().min(MOST) {
+        if count >= self.slots.len().min(MAX_CAPACITY) {
             return Err(Fault::Full);
         }
         self.power.spend()?;
@@ -68,8 +65,8 @@ pub impl Store for SlotStore<'_> as SlotStoreStore {
     }
 
     fn sync(&mut self) -> Result<(), Fault>
-        ensures means { λ r. ⌜ (answer r, meaning (now (self .exit))) ≡ synced (meaning (now (self .entry))) ⌝ }
-        ensures slots { λ _. ⌜ now (now (self .exit) .slots) ≡ now (now (self .entry) .slots) ⌝ }
+        ensures after { λ r. ⌜ (answer r, meaning (now (self .exit))) ≡ synced (meaning (now (self .entry))) ⌝ }
+        ensures same { λ _. ⌜ now (now (self .exit) .slots) ≡ now (now (self .entry) .slots) ⌝ }
     {
         if !self.power.alive {
             return Err(Fault::Dead);
@@ -81,8 +78,8 @@ pub impl Store for SlotStore<'_> as SlotStoreStore {
     }
 
     fn arm(&mut self, fuse: u64)
-        ensures means { λ _. ⌜ meaning (now (self .exit)) ≡ armed fuse (meaning (now (self .entry))) ⌝ }
-        ensures slots { λ _. ⌜ now (now (self .exit) .slots) ≡ now (now (self .entry) .slots) ⌝ }
+        ensures after { λ _. ⌜ meaning (now (self .exit)) ≡ armed fuse (meaning (now (self .entry))) ⌝ }
+        ensures same { λ _. ⌜ now (now (self .exit) .slots) ≡ now (now (self .entry) .slots) ⌝ }
     {
         self.power.fuse = Some(fuse);
     }
@@ -101,8 +98,8 @@ pub impl Store for SlotStore<'_> as SlotStoreStore {
     fn revive(&mut self, j: u64) -> Result<u64, Fault>
         ensures choice { λ r. ⌜ kept r ≤ unsafe-count (meaning (now (self .entry))) ⌝ }
         ensures after { λ r. ⌜ (answer r, meaning (now (self .exit))) ≡ revived (kept r) (meaning (now (self .entry))) ⌝ }
-        ensures pinned { λ r. ⌜ elim r [ Ok n ↦ n ≡ min j (unsafe-count (meaning (now (self .entry)))) | Err _ ↦ Unit {0} ] ⌝ }
-        ensures slots { λ _. ⌜ now (now (self .exit) .slots) ≡ now (now (self .entry) .slots) ⌝ }
+        ensures pinned { λ r. ⌜ (answer r, meaning (now (self .exit))) ≡ revived (min j (unsafe-count (meaning (now (self .entry))))) (meaning (now (self .entry))) ⌝ }
+        ensures same { λ _. ⌜ now (now (self .exit) .slots) ≡ now (now (self .entry) .slots) ⌝ }
     {
         if self.power.alive {
             return Err(Fault::Alive);
@@ -120,7 +117,7 @@ pub impl Store for SlotStore<'_> as SlotStoreStore {
     }
 
     fn capacity(&self) -> u64 {
-        self.slots.len().min(MOST) as u64
+        self.slots.len().min(MAX_CAPACITY) as u64
     }
 
     fn safe_count(&self) -> u64 {

@@ -8,6 +8,9 @@ ghost use lib.ListN.{length};
 use crate::fault::Fault;
 use records::Record;
 
+// No store takes more records than this.
+pub const MAX_CAPACITY: usize = 4096;
+
 pub trait Store {
     ghost means: { Self → Meaning };
 

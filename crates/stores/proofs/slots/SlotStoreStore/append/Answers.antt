@@ -20,7 +20,7 @@ returns c =
     let m = meaning (c .args .self .now) in
     let free : count m < m .capacity = omega arith in
     record {
-      means =
+      after =
           ap (λ m. (Ok tt, m)) (grown xs _ _ _ _ (c .args .self .now .power) _ (c .len-count .ensures) room)
           ∙ append-done m (c .args .record) _ (c .if-not-self .left) free (c .in-Continue-spend .ensures tt);
       slots = ap (λ n. set xs n (c .args .record)) (c .len-count .ensures);

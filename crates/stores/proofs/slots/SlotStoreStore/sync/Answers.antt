@@ -9,8 +9,8 @@ pub returns : need.returns
 returns c =
     let s = c .args .self .now in
     record {
-      means =
+      after =
           ap (λ m. (Ok tt, m)) (settled (s .slots .now) (s .safe) (s .pending) _ (c .spend .last .self) (s .power) (c .len-self .ensures))
           ∙ sync-done (meaning s) _ (c .if-not-self .left) (c .in-Continue-spend .ensures tt);
-      slots = refl;
+      same = refl;
     }
