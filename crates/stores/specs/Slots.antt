@@ -13,7 +13,7 @@ abbrev pub laid : List Record → ℕ → ℕ → Power → Meaning
 laid slots safe pending power = record {
   records = take (safe + pending) slots;
   capacity = min (length slots) 4096;
-  safe = min safe (length slots);
+  safe = min safe (length (take (safe + pending) slots));
   alive = power .alive;
   fuse = power .fuse;
 }

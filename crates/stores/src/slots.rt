@@ -1,10 +1,13 @@
 // The slot store: records in the slots of a lent slice, one to a slot.
+ghost use mathlib.Core.Bool.{true};
+ghost use mathlib.Core.List.{[], _∷_, _++_};
 ghost use mathlib.Core.Path.{_≡_};
-ghost use Prim.Native.Nat.{_≤_, min};
-ghost use lib.ListN.{length};
+ghost use Prim.Native.Nat.{_+_, _<_, _≤_, min};
+ghost use lib.ListN.{length, take, getD};
 ghost use Rattle.std.specs.Results.{isOk};
-ghost use Rattle.stores.specs.Calls.{appended, synced, armed, revived, kept, unsafe-count};
+ghost use Rattle.stores.specs.Calls.{appended, synced, armed, revived, kept, unsafe-count, all-safe, with-records};
 ghost use Rattle.stores.specs.Faults.{answer};
+ghost use Rattle.stores.specs.Meaning.{count};
 ghost use Rattle.stores.specs.Slots.{means as meaning, empty, filled};
 use crate::fault::Fault;
 use crate::power::Power;
@@ -36,11 +39,48 @@ impl<'a> SlotStore<'a> {
     }
 }
 
+// How each change of a field changes the list.
 impl SlotStore<'_> {
     fn len(&self) -> usize
-        ensures { λ r. ⌜ r ≡ length (meaning (now (self .entry)) .records) ⌝ }
+        ensures { λ r. ⌜ r ≡ count (meaning (now (self .entry))) ⌝ }
     {
         self.safe.saturating_add(self.pending).min(self.slots.len())
+    }
+
+    // Writes the slot behind the list.
+    fn push(&mut self, record: Record)
+        requires { ⌜ count (meaning (now self)) < length (now (now self .slots)) ⌝ }
+        ensures after { λ _. ⌜ meaning (now (self .exit)) ≡ with-records (meaning (now (self .entry)) .records ++ «record» ∷ []) (meaning (now (self .entry))) ⌝ }
+        ensures slots { λ _. ⌜ now (now (self .exit) .slots) ≡ filled (now (self .entry)) «record» true ⌝ }
+    {
+        let count = self.len();
+        self.slots[count] = record;
+        self.pending += 1;
+    }
+
+    fn at(&self, i: usize) -> Record
+        requires { ⌜ i < count (meaning (now self)) ⌝ }
+        ensures { λ r. ⌜ ((d : Record) → r ≡ getD (meaning (now (self .entry)) .records) i d) ⌝ }
+    {
+        self.slots[i]
+    }
+
+    fn settle(&mut self)
+        ensures after { λ _. ⌜ meaning (now (self .exit)) ≡ all-safe (meaning (now (self .entry))) ⌝ }
+        ensures same { λ _. ⌜ now (now (self .exit) .slots) ≡ now (now (self .entry) .slots) ⌝ }
+    {
+        self.safe = self.len();
+        self.pending = 0;
+    }
+
+    // Leaves the safe records and the first `kept` of the others, all of them safe.
+    fn keep(&mut self, kept: usize)
+        requires { ⌜ kept ≤ unsafe-count (meaning (now self)) ⌝ }
+        ensures after { λ _. ⌜ meaning (now (self .exit)) ≡ all-safe (with-records (take (meaning (now (self .entry)) .safe + kept) (meaning (now (self .entry)) .records)) (meaning (now (self .entry)))) ⌝ }
+        ensures same { λ _. ⌜ now (now (self .exit) .slots) ≡ now (now (self .entry) .slots) ⌝ }
+    {
+        self.safe = self.safe.min(self.len()) + kept;
+        self.pending = 0;
     }
 }
 
@@ -51,16 +91,14 @@ pub impl Store for SlotStore<'_> as SlotStoreStore {
         ensures after { λ r. ⌜ (answer r, meaning (now (self .exit))) ≡ appended «record» (meaning (now (self .entry))) ⌝ }
         ensures slots { λ r. ⌜ now (now (self .exit) .slots) ≡ filled (now (self .entry)) «record» (isOk r) ⌝ }
     {
-        let count = self.len();
         if !self.power.alive {
             return Err(Fault::Dead);
         }
-        if count >= self.slots.len().min(MAX_CAPACITY) {
+        if self.count() >= self.capacity() {
             return Err(Fault::Full);
         }
         self.power.spend()?;
-        self.slots[count] = record;
-        self.pending += 1;
+        self.push(record);
         Ok(())
     }
 
@@ -72,8 +110,7 @@ pub impl Store for SlotStore<'_> as SlotStoreStore {
             return Err(Fault::Dead);
         }
         self.power.spend()?;
-        self.safe = self.len();
-        self.pending = 0;
+        self.settle();
         Ok(())
     }
 
@@ -88,10 +125,10 @@ pub impl Store for SlotStore<'_> as SlotStoreStore {
         if !self.power.alive {
             return Err(Fault::Dead);
         }
-        if i == 0 || i > self.len() as u64 {
+        if i == 0 || i > self.count() {
             return Err(Fault::NoRecord);
         }
-        *place = self.slots[i as usize - 1];
+        *place = self.at(i as usize - 1);
         Ok(())
     }
 
@@ -104,10 +141,8 @@ pub impl Store for SlotStore<'_> as SlotStoreStore {
         if self.power.alive {
             return Err(Fault::Alive);
         }
-        let safe = self.safe.min(self.slots.len());
-        let kept = j.min((self.len() - safe) as u64);
-        self.safe = safe + kept as usize;
-        self.pending = 0;
+        let kept = j.min(self.count() - self.safe_count());
+        self.keep(kept as usize);
         self.power.alive = true;
         Ok(kept)
     }
@@ -121,7 +156,7 @@ pub impl Store for SlotStore<'_> as SlotStoreStore {
     }
 
     fn safe_count(&self) -> u64 {
-        self.safe.min(self.slots.len()) as u64
+        self.safe.min(self.len()) as u64
     }
 
     fn is_alive(&self) -> bool {
