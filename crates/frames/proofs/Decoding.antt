@@ -91,7 +91,7 @@ closing c rest h =
     ap (λ xs. getD xs (long c + 1) 0) (append-assoc (body c) (0x5A ∷ []) rest)
     ∙ getD-at (body c) 0x5A rest 0 (long c + 1) (length-body c h)
 
-long-bounds : (c : Content) → (11 ≤ long c) × (long c ≤ 51)
+pub long-bounds : (c : Content) → (11 ≤ long c) × (long c ≤ 51)
 long-bounds (Interval x) = (omega arith, omega arith)
 long-bounds (Checkpoint x) = (omega arith, omega arith)
 long-bounds (Line v) = (omega arith, omega arith)

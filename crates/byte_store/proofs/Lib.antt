@@ -1,0 +1,3 @@
+mod Filed
+mod Walks
+mod Means
