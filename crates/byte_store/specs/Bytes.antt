@@ -3,11 +3,11 @@ use Prim.Native.Nat.{ℕ, min, _/_, _+_}
 use mathlib.Core.Path.{_≡_}
 use mathlib.Core.Bool.{Bool, true, cond}
 use mathlib.Core.List.{List, [], _∷_, _++_}
-use lib.ListN.{length, take, drop, replicate}
+use lib.ListN.{length, take, drop}
 use Rattle.std.specs.declared.option.Option.the-variants.{None}
-use Rattle.records.specs.declared.Content.the-variants.{Line}
 use Rattle.records.specs.declared.Record.{Record}
 use Rattle.frames.specs.Frames.{framed}
+use Rattle.frames.specs.Reads.{first-line}
 use Rattle.stores.specs.Meaning.{Meaning}
 use Rattle.byte_store.specs.declared.ByteStore.{ByteStore}
 use Rattle.byte_store.specs.Journals.{extent, listed, zeroed, standing, Whole}
@@ -45,6 +45,4 @@ cleared s t accepted = cond accepted (zeroed (extent (t .journal)) (medium s)) (
 
 -- the line 1 and then zeros, unsafe: with 12 of its bytes it is lost, with 13 it stands
 abbrev pub Line-stands : Type 0
-Line-stands =
-    let line : Record = record { content = Line (1 ∷ replicate 7 0) } in
-    (standing 12 (line ∷ []) ≡ 0) × (standing 13 (line ∷ []) ≡ 1)
+Line-stands = (standing 12 (first-line ∷ []) ≡ 0) × (standing 13 (first-line ∷ []) ≡ 1)

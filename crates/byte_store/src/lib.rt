@@ -9,7 +9,7 @@ ghost use Rattle.records.specs.declared.Record.{Record as Row};
 ghost use Rattle.stores.specs.Calls.{appended, synced, armed, revived, kept, unsafe-count, all-safe, with-records};
 ghost use Rattle.stores.specs.Faults.{answer};
 ghost use Rattle.stores.specs.Meaning.{count};
-ghost use Rattle.byte_store.specs.Bytes.{means as meaning, empty, medium, Sound, filled, cleared, Line-stands};
+ghost use Rattle.byte_store.specs.Bytes.{means as meaning, empty, medium, Sound, filled, cleared};
 ghost use Rattle.byte_store.specs.Journals.{standing};
 use crate::journal::Journal;
 use frames::write::LARGEST;
@@ -19,6 +19,7 @@ use stores::power::Power;
 use stores::store::MAX_CAPACITY;
 use stores::store::Store;
 
+pub mod edge;
 mod journal;
 
 #[derive(Drop)]
@@ -170,9 +171,3 @@ pub impl Store for ByteStore<'_> as ByteStoreStore {
         self.power.alive
     }
 }
-
-// The line of 1 and then zeros, unsafe: a revive with 12 of its bytes keeps no record, one with 13
-// keeps it.
-pub fn line_stands()
-    ensures { λ _. ⌜ Line-stands ⌝ }
-{}

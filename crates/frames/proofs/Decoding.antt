@@ -22,7 +22,7 @@ use Rattle.records.specs.declared.Content.{Content}
 use Rattle.records.specs.declared.Content.the-variants.{Interval, Checkpoint, Line}
 use Rattle.records.specs.declared.Record.{Record}
 use Rattle.frames.specs.Frames.{framed, short, long, kind, fields, sends-part, output-part, size, Held, Typed, Wrote}
-use Rattle.frames.specs.Reads.{candidate, begins, decoded, followed, reading, Strict, Lists-back, interval-at, checkpoint-at, entries-at}
+use Rattle.frames.specs.Reads.{candidate, begins, decoded, followed, reading, Strict, interval-at, checkpoint-at, entries-at}
 use Rattle.frames.proofs.Candidate.{candidate-back}
 
 begins-front : (p rest : List ℕ) → begins p (p ++ rest) ≡ true
@@ -145,7 +145,7 @@ torn x k zeros h l = go (decoded (torn-bytes x k zeros h l)) refl
     go None e = refl
     go (Some y) e = absurd (never x k zeros h l y e)
 
-pub lists-back : Lists-back
+lists-back : (xs : List Record) (rest : List ℕ) → All Typed xs → reading (length xs) (joined framed xs ++ rest) ≡ xs
 lists-back [] rest h = refl
 lists-back (x ∷ xs) rest h =
     let tail = joined framed xs ++ rest in
@@ -178,9 +178,16 @@ tested bytes was out at end x r same wrote m =
     subst P x-is (ap (λ b. cond b (Some x) None) (sym answer))
 
 -- what is decoded is strict, where it is a record of the code's types
-pub strict : (bs : List ℕ) (r : Option Record) → decoded bs ≡ r → ((x : Record) → r ≡ Some x → Typed x) → Strict bs r
+strict : (bs : List ℕ) (r : Option Record) → decoded bs ≡ r → ((x : Record) → r ≡ Some x → Typed x) → Strict bs r
 strict bs r e typed = record {
   same = λ x s. (typed x s, decoded-is bs x (e ∙ s) .1);
   back = λ x rest h front. sym e ∙ ap decoded front ∙ read-back x rest h;
   torn = λ x k zeros h l cut. sym e ∙ ap decoded cut ∙ torn x k zeros h l;
+  lists = λ xs rest h front. ap (reading (length xs)) front ∙ lists-back xs rest h;
 }
+
+pub strict-none : (bs : List ℕ) → decoded bs ≡ None → Strict bs None
+strict-none bs e = strict bs None e (λ x s. let z : _≡_ {A = ℕ} 0 1 = cc in absurd (omega arith))
+
+pub strict-some : (bs : List ℕ) (x : Record) → decoded bs ≡ Some x → Typed x → Strict bs (Some x)
+strict-some bs x e h = strict bs (Some x) e (λ y s. let same : x ≡ y = cc in let P : Record → Type 0 = Typed in subst P same h)

@@ -76,15 +76,6 @@ begins part bs = sameBytes part (take (length part) bs)
 unfoldable pub decoded : List ℕ → Option Record
 decoded bs = cond (begins (framed (candidate bs)) bs) (Some (candidate bs)) None
 
--- what a reader owes of the bytes at a place
-pub record Strict (bs : List ℕ) (r : Option Record) : Type 0 where
-  -- what is read frames back to the same bytes
-  pub same : (x : Record) → r ≡ Some x → Typed x × (bs ≡ framed x ++ drop (length (framed x)) bs)
-  -- a frame with anything behind it is read as the record that it was written from
-  pub back : (x : Record) (rest : List ℕ) → Typed x → bs ≡ framed x ++ rest → r ≡ Some x
-  -- a frame cut short anywhere, with zeros behind it or with the bytes ending there, is never read
-  pub torn : (x : Record) (k zeros : ℕ) → Typed x → k < length (framed x) → bs ≡ take k (framed x) ++ replicate zeros 0 → r ≡ None
-
 -- a record, if one was read, and what `more` makes of the bytes behind its frame
 abbrev pub followed : (List ℕ → List Record) → List ℕ → Option Record → List Record
 followed more bs None = []
@@ -95,12 +86,22 @@ abbrev pub reading : ℕ → List ℕ → List Record
 reading zero bs = []
 reading (suc n) bs = followed (reading n) bs (decoded bs)
 
--- the frames of a list read back to the list
-abbrev pub Lists-back : Type 0
-Lists-back = (xs : List Record) (rest : List ℕ) → All Typed xs → reading (length xs) (joined framed xs ++ rest) ≡ xs
+-- what a reader owes of the bytes at a place
+pub record Strict (bs : List ℕ) (r : Option Record) : Type 0 where
+  -- what is read frames back to the same bytes
+  pub same : (x : Record) → r ≡ Some x → Typed x × (bs ≡ framed x ++ drop (length (framed x)) bs)
+  -- a frame with anything behind it is read as the record that it was written from
+  pub back : (x : Record) (rest : List ℕ) → Typed x → bs ≡ framed x ++ rest → r ≡ Some x
+  -- a frame cut short anywhere, with zeros behind it or with the bytes ending there, is never read
+  pub torn : (x : Record) (k zeros : ℕ) → Typed x → k < length (framed x) → bs ≡ take k (framed x) ++ replicate zeros 0 → r ≡ None
+  -- the frames of a list, with anything behind them, read back to the list
+  pub lists : (xs : List Record) (rest : List ℕ) → All Typed xs → bs ≡ joined framed xs ++ rest → reading (length xs) bs ≡ xs
 
--- the line 1 and then zeros
+-- the recovery line of 1 and then zeros
+abbrev pub first-line : Record
+first-line = record { content = Line (1 ∷ replicate 7 0) }
+
 abbrev pub Line-bytes : Type 0
 Line-bytes =
-    framed (record { content = Line (1 ∷ replicate 7 0) })
+    framed first-line
     ≡ 0x0B ∷ 0x00 ∷ 0x03 ∷ 0x00 ∷ 0x01 ∷ 0x00 ∷ 0x00 ∷ 0x00 ∷ 0x00 ∷ 0x00 ∷ 0x00 ∷ 0x00 ∷ 0x5A ∷ []

@@ -1,4 +1,4 @@
 // The frames of records: bytes of a record that a power cut cannot mistake for another's.
-pub mod laws;
+pub mod edge;
 pub mod read;
 pub mod write;
