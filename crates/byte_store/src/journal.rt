@@ -36,6 +36,12 @@ impl Journal<'_> {
         self.bytes
     }
 
+    pub(crate) fn size(&self) -> usize
+        ensures { λ r. ⌜ r ≡ length (now (now (self .entry) .bytes)) ⌝ }
+    {
+        self.bytes.len()
+    }
+
     // The place behind the last frame.
     pub(crate) fn end(&self) -> usize
         ensures { λ r. ⌜ r ≡ extent (now (self .entry)) ⌝ }

@@ -160,7 +160,7 @@ pub impl Store for ByteStore<'_> as ByteStoreStore {
     }
 
     fn capacity(&self) -> u64 {
-        (self.journal.bytes().len() / LARGEST).min(MAX_CAPACITY) as u64
+        (self.journal.size() / LARGEST).min(MAX_CAPACITY) as u64
     }
 
     fn safe_count(&self) -> u64 {

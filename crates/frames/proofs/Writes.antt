@@ -26,10 +26,11 @@ then {was} {mid} {out} {at} {stop} {end} {p} {q} a b =
 pub same-part : {was out : List ℕ} {at end : ℕ} {p q : List ℕ} → p ≡ q → Wrote was at p out end → Wrote was at q out end
 same-part {was} {out} {at} {end} e a = let P : List ℕ → Type 0 = λ xs. Wrote was at xs out end in subst P e a
 
--- what each kind's way through the writer leaves, and the closing byte behind it
-pub closed : (r : Record) (v : Content) {was mid left out : List ℕ} {at stop place end : ℕ} → r .content ≡ v → Held v → Wrote was at (short (long v) ++ short (kind v) ++ fields v) mid stop → left ≡ mid → place ≡ stop → Wrote left place (0x5A ∷ []) out end → Typed r × Wrote was at (framed r) out end
-closed r v {was} {mid} {left} {out} {at} {stop} {place} {end} e held body same-bytes same-place last =
+-- the head, what each kind's way through the writer leaves, and the closing byte behind it
+pub closed : (r : Record) (v : Content) {was first mid left out : List ℕ} {at low stop place end : ℕ} → r .content ≡ v → Held v → Wrote was at (short (long (r .content)) ++ short (kind (r .content))) first low → Wrote first low (fields v) mid stop → left ≡ mid → place ≡ stop → Wrote left place (0x5A ∷ []) out end → Typed r × Wrote was at (framed r) out end
+closed r v {was} {first} {mid} {left} {out} {at} {low} {stop} {place} {end} e held top body same-bytes same-place last =
     let Q : List ℕ → ℕ → Type 0 = λ xs n. Wrote xs n (0x5A ∷ []) out end in
     let moved : Q mid stop = subst (λ n. Q mid n) same-place (subst (λ xs. Q xs place) same-bytes last) in
-    let P : Content → Type 0 = λ x. Held x × Wrote was at (short (long x) ++ short (kind x) ++ fields x ++ 0x5A ∷ []) out end in
-    subst P (sym e) (held, then body moved)
+    let P : Content → Type 0 = λ x. Held x × Wrote first low (fields x) mid stop in
+    let back = subst P (sym e) (held, body) in
+    (back .0, then (then top (back .1)) moved)

@@ -1,11 +1,11 @@
 // The frame of a record, written into lent bytes.
 ghost use mathlib.Core.Path.{_≡_};
-ghost use mathlib.Core.List.{_++_};
+ghost use mathlib.Core.List.{[], _∷_, _++_};
 ghost use Prim.Native.Nat.{_+_, _^_, _<_, _≤_};
 ghost use lib.ListN.{length};
 ghost use Rattle.std.specs.Options.{Cases};
 ghost use Rattle.records.specs.declared.Content.the-variants.{Interval as interval, Checkpoint as checkpoint};
-ghost use Rattle.frames.specs.Frames.{Wrote, short, word, sent, sends-part, output-part, fields, framed, size, Held, Words, Word, Typed};
+ghost use Rattle.frames.specs.Frames.{Wrote, short, word, sent, sends-part, output-part, long, kind, fields, framed, size, Held, Words, Word, Typed};
 use programs::values::Send;
 use programs::values::Sends;
 use records::Checkpoint;
@@ -22,11 +22,8 @@ pub const LARGEST: usize = 53;
 pub fn frame_size(record: &Record) -> usize
     ensures { λ r. ⌜ r ≡ size (now («record» .entry)) ⌝ }
 {
-    match record.content {
-        Content::Interval(_) => 53,
-        Content::Checkpoint(_) => 39,
-        Content::Line(_) => 13,
-    }
+    let (long, _) = head(&record.content);
+    2 + long as usize
 }
 
 // Writes the frame of `record` at `at`, and answers the place behind it. Where it does not fit,
@@ -37,41 +34,72 @@ pub fn write_frame(out: &mut [u8], at: usize, record: &Record) -> Option<usize>
     if at > out.len() || out.len() - at < frame_size(record) {
         return None;
     }
+    let at = put_head(out, at, &record.content);
     let at = match record.content {
         Content::Interval(x) => put_interval(out, at, &x),
         Content::Checkpoint(x) => put_checkpoint(out, at, &x),
-        Content::Line(entries) => {
-            let at = put_head(out, at, 11, 3);
-            put_entries(out, at, entries)
-        }
+        Content::Line(entries) => put_entries(out, at, entries),
     };
-    Some(put(out, at, &[CLOSING]))
+    Some(put_closing(out, at))
+}
+
+// The length, which counts what follows it, and the kind.
+fn head(content: &Content) -> (u16, u16)
+    ensures long { λ r. ⌜ r .0 ≡ long (now (content .entry)) ⌝ }
+    ensures kind { λ r. ⌜ r .1 ≡ kind (now (content .entry)) ⌝ }
+{
+    match content {
+        Content::Interval(_) => (51, 1),
+        Content::Checkpoint(_) => (37, 2),
+        Content::Line(_) => (11, 3),
+    }
+}
+
+fn put_head(out: &mut [u8], at: usize, content: &Content) -> usize
+    requires { ⌜ at + 4 ≤ length (now out) ⌝ }
+    ensures { λ r. ⌜ Wrote (now (out .entry)) at (short (long (now (content .entry))) ++ short (kind (now (content .entry)))) (now (out .exit)) r ⌝ }
+{
+    let (long, kind) = head(content);
+    let at = put(out, at, &long.to_le_bytes());
+    put(out, at, &kind.to_le_bytes())
 }
 
 fn put_interval(out: &mut [u8], at: usize, x: &Interval) -> usize
-    requires { ⌜ at + 53 ≤ length (now out) ⌝ }
+    requires { ⌜ at + 48 ≤ length (now out) ⌝ }
     ensures typed { λ _. ⌜ Held (interval (now (x .entry))) ⌝ }
-    ensures wrote { λ r. ⌜ Wrote (now (out .entry)) at (short 51 ++ short 1 ++ fields (interval (now (x .entry)))) (now (out .exit)) r ⌝ }
+    ensures wrote { λ r. ⌜ Wrote (now (out .entry)) at (fields (interval (now (x .entry)))) (now (out .exit)) r ⌝ }
 {
-    let at = put_head(out, at, 51, 1);
-    let at = put(out, at, &[x.process, x.index, x.source, x.sent_at]);
+    let at = put(out, at, &interval_bytes(x));
     let at = put_word(out, at, x.value);
     let at = put_sends(out, at, x.sends);
     let at = put_output(out, at, x.output);
     put_entries(out, at, x.vector)
 }
 
-fn put_checkpoint(out: &mut [u8], at: usize, x: &Checkpoint) -> usize
-    requires { ⌜ at + 39 ≤ length (now out) ⌝ }
-    ensures typed { λ _. ⌜ Held (checkpoint (now (x .entry))) ⌝ }
-    ensures wrote { λ r. ⌜ Wrote (now (out .entry)) at (short 37 ++ short 2 ++ fields (checkpoint (now (x .entry)))) (now (out .exit)) r ⌝ }
+// The fields of an interval that are a byte each.
+fn interval_bytes(x: &Interval) -> [u8; 4]
+    ensures { λ r. ⌜ r ≡ now (x .entry) .process ∷ now (x .entry) .index ∷ now (x .entry) .source ∷ now (x .entry) .«sent_at» ∷ [] ⌝ }
 {
-    let at = put_head(out, at, 37, 2);
-    let at = put(out, at, &[x.process, x.index]);
+    [x.process, x.index, x.source, x.sent_at]
+}
+
+fn put_checkpoint(out: &mut [u8], at: usize, x: &Checkpoint) -> usize
+    requires { ⌜ at + 34 ≤ length (now out) ⌝ }
+    ensures typed { λ _. ⌜ Held (checkpoint (now (x .entry))) ⌝ }
+    ensures wrote { λ r. ⌜ Wrote (now (out .entry)) at (fields (checkpoint (now (x .entry)))) (now (out .exit)) r ⌝ }
+{
+    let at = put(out, at, &checkpoint_bytes(x));
     let at = put_word(out, at, x.state.a);
     let at = put_word(out, at, x.state.b);
     let at = put_word(out, at, x.state.c);
     put_word(out, at, x.state.d)
+}
+
+// The fields of a checkpoint that are a byte each.
+fn checkpoint_bytes(x: &Checkpoint) -> [u8; 2]
+    ensures { λ r. ⌜ r ≡ now (x .entry) .process ∷ now (x .entry) .index ∷ [] ⌝ }
+{
+    [x.process, x.index]
 }
 
 fn put_sends(out: &mut [u8], at: usize, sends: Sends) -> usize
@@ -117,13 +145,11 @@ fn put_output(out: &mut [u8], at: usize, output: Option<u64>) -> usize
     }
 }
 
-// The length, which counts what follows it, and the kind.
-fn put_head(out: &mut [u8], at: usize, long: u16, kind: u16) -> usize
-    requires { ⌜ at + 4 ≤ length (now out) ⌝ }
-    ensures { λ r. ⌜ Wrote (now (out .entry)) at (short long ++ short kind) (now (out .exit)) r ⌝ }
+fn put_closing(out: &mut [u8], at: usize) -> usize
+    requires { ⌜ at + 1 ≤ length (now out) ⌝ }
+    ensures { λ r. ⌜ Wrote (now (out .entry)) at (0x5A ∷ []) (now (out .exit)) r ⌝ }
 {
-    let at = put(out, at, &long.to_le_bytes());
-    put(out, at, &kind.to_le_bytes())
+    put(out, at, &[CLOSING])
 }
 
 fn put_word(out: &mut [u8], at: usize, value: u64) -> usize
