@@ -143,7 +143,7 @@ joined-append (x ∷ xs) ys =
 -- the first k frames, with zeros behind them
 pub exact-cut : (bs starts : List ℕ) (n k e end : ℕ) (L : List Record) → Exact bs starts n e L → k ≤ n → end ≡ length (joined framed (take k L)) → end ≤ length bs → Exact (zeroed end bs) starts k end (take k L)
 exact-cut bs starts n k e end L h fewer stop inside =
-    let Z = replicate (length bs - e) 0 in
+    let Z : List ℕ = replicate (length bs - e) 0 in
     let split : joined framed L ≡ joined framed (take k L) ++ joined framed (drop k L) =
     ap (joined framed) (sym (take-append-drop k L)) ∙ joined-append (take k L) (drop k L) in
     let front : take end bs ≡ joined framed (take k L) =
