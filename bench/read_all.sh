@@ -1,6 +1,6 @@
 #!/bin/sh
-# Instructions of reading a full byte store record by record, counted by callgrind: run by hand, after
-# `rt check read_all`.
+# Instructions of writing a byte store full and of reading it record by record, counted by callgrind:
+# run by hand, after `rt check read_all`.
 set -eu
 cd "$(dirname "$0")/.."
 
@@ -9,8 +9,10 @@ instructions() {
         sed -n 's/.*Collected : *//p'
 }
 
+start=$(instructions 0 fill)
 for records in 512 4096; do
     fill=$(instructions "$records" fill)
     all=$(instructions "$records" read)
-    echo "$records records: $((all - fill)) instructions to read all, $(((all - fill) / records)) for each, $((fill / records)) to write each"
+    echo "$records records: $((fill - start)) instructions to write all, $(((fill - start) / records)) for each;" \
+        "$((all - fill)) to read all, $(((all - fill) / records)) for each"
 done

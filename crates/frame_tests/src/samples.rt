@@ -7,7 +7,7 @@ use records::Content;
 use records::Interval;
 use records::Record;
 
-pub fn interval(sends: Sends, output: Option<u64>) -> Record {
+pub(crate) fn interval(sends: Sends, output: Option<u64>) -> Record {
     Record {
         content: Content::Interval(Interval {
             process: 1,
@@ -22,7 +22,7 @@ pub fn interval(sends: Sends, output: Option<u64>) -> Record {
     }
 }
 
-pub fn checkpoint() -> Record {
+pub(crate) fn checkpoint() -> Record {
     Record {
         content: Content::Checkpoint(Checkpoint {
             process: 1,
@@ -37,13 +37,13 @@ pub fn checkpoint() -> Record {
     }
 }
 
-pub fn line(first: u8) -> Record {
+pub(crate) fn line(first: u8) -> Record {
     Record {
         content: Content::Line([first, 0, 0, 0, 0, 0, 0, 0]),
     }
 }
 
-pub fn one_send() -> Record {
+pub(crate) fn one_send() -> Record {
     let m = Send {
         target: 2,
         value: 10,
@@ -52,7 +52,7 @@ pub fn one_send() -> Record {
 }
 
 // All three kinds, with no, one and two sends, with and without an output.
-pub fn all() -> [Record; 5] {
+pub(crate) fn all() -> [Record; 5] {
     let m = Send {
         target: 7,
         value: 0,
@@ -71,7 +71,7 @@ pub fn all() -> [Record; 5] {
 }
 
 // The frame of `one_send`.
-pub const ONE_SEND: [u8; 53] = [
+pub(crate) const ONE_SEND: [u8; 53] = [
     0x33,
     0x00,
     0x01,
@@ -128,7 +128,7 @@ pub const ONE_SEND: [u8; 53] = [
 ];
 
 // The frame of `checkpoint`.
-pub const CHECKPOINT: [u8; 39] = [
+pub(crate) const CHECKPOINT: [u8; 39] = [
     0x25,
     0x00,
     0x02,
@@ -171,7 +171,7 @@ pub const CHECKPOINT: [u8; 39] = [
 ];
 
 // The frame of the line of 1 and then zeros.
-pub const LINE: [u8; 13] = [
+pub(crate) const LINE: [u8; 13] = [
     0x0B,
     0x00,
     0x03,
