@@ -1,25 +1,13 @@
--- What the steps of a drill make of a store.
+-- What a power cut at a sync, and a revive after it, make of a store.
 use Prim.Native.Nat.{ℕ, _-_, _≤_}
-use mathlib.Core.List.{List, [], _∷_}
 use mathlib.Core.Path.{_≡_}
 use Rattle.std.specs.declared.result.Result.{Result}
 use Rattle.std.specs.declared.result.Result.the-variants.{Ok, Err}
-use Rattle.records.specs.declared.Record.{Record}
-use Rattle.stores.specs.Calls.{Outcome, appended, synced, armed, revived, unsafe-count}
+use Rattle.stores.specs.Calls.{Outcome, synced, armed, revived, unsafe-count}
 use Rattle.stores.specs.Faults.{number}
 use Rattle.stores.specs.Meaning.{Meaning, count}
 use Rattle.stores.specs.declared.fault.Fault.{Fault}
 use Rattle.store_drill.specs.declared.drill.Loss.{Loss}
-
--- the next call, unless this one was refused
-abbrev pub next : (Meaning → Outcome (Unit {0})) → Outcome (Unit {0}) → Outcome (Unit {0})
-next f (Ok _, m) = f m
-next f (Err e, m) = (Err e, m)
-
--- one record after the other, up to a refusal
-abbrev pub all-appended : List Record → Meaning → Outcome (Unit {0})
-all-appended [] m = (Ok tt, m)
-all-appended (x ∷ xs) m = next (all-appended xs) (appended x m)
 
 -- the power goes at a sync
 abbrev pub cut : Meaning → Outcome (Unit {0})

@@ -1,8 +1,7 @@
-// The steps of a drill: records written, the power cut off at a sync, and the store revived.
+// The power of a store cut off at a sync, and given back.
 ghost use mathlib.Core.Path.{_≡_};
 ghost use Rattle.stores.specs.Faults.{answer};
-ghost use Rattle.store_drill.specs.Drill.{all-appended, cut, Restored};
-use records::Record;
+ghost use Rattle.store_drill.specs.Drill.{cut, Restored};
 use stores::fault::Fault;
 use stores::store::Store;
 
@@ -13,16 +12,6 @@ pub struct Loss {
     pub kept: u64,
     pub stood: u64,
     pub lost: u64,
-}
-
-// Appends one record after the other, up to a refusal.
-pub fn append_all<S: Store>(store: &mut S, records: &[Record]) -> Result<(), Fault>
-    ensures { λ r. ⌜ (answer r, S·Store .means (now (store .exit))) ≡ all-appended (now (records .entry)) (S·Store .means (now (store .entry))) ⌝ }
-{
-    for record in records {
-        store.append(*record)?;
-    }
-    Ok(())
 }
 
 // Syncs with a fuse of 0, so that the store dies there.

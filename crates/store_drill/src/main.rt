@@ -2,17 +2,20 @@
 mod drill;
 mod samples;
 
-use drill::append_all;
+use drill::Loss;
 use drill::cut_power;
 use drill::restore;
 use records::Record;
-use samples::LATER;
-use samples::SYNCED;
+use samples::LINE;
+use samples::MARK;
+use samples::SENT;
+use samples::TAKEN;
 use std::io;
 use stores::fault::Fault;
 use stores::slots::SlotStore;
 use stores::slots::SlotStoreStore;
 use stores::store::Store;
+use stores::store::free_slots;
 
 #[derive(Drop)]
 enum Stop {
@@ -42,11 +45,15 @@ fn held<S: Store>(rt: &LibcRuntime, store: &S) -> io::Result<()> {
     )
 }
 
-// Some records made safe, some more written, and the power lost before they are.
-fn show<S: Store>(rt: &LibcRuntime, store: &mut S, j: u64) -> Result<(), Stop> {
-    append_all(store, &SYNCED)?;
+// Two records are made safe, two more written, and the power goes before those are.
+fn show<S: Store>(rt: &LibcRuntime, name: &str, store: &mut S, j: u64) -> Result<(), Stop> {
+    let free = free_slots(store);
+    println!(rt, "{name} with room for {free} records")?;
+    store.append(SENT)?;
+    store.append(TAKEN)?;
     store.sync()?;
-    append_all(store, &LATER)?;
+    store.append(MARK)?;
+    store.append(LINE)?;
     held(rt, store)?;
     if let Err(fault) = cut_power(store) {
         let number = fault.number();
@@ -56,28 +63,24 @@ fn show<S: Store>(rt: &LibcRuntime, store: &mut S, j: u64) -> Result<(), Stop> {
         )?;
     }
     held(rt, store)?;
-    let loss = restore(store, j)?;
-    let kept = loss.kept;
-    let stood = loss.stood;
-    let lost = loss.lost;
+    let Loss { kept, stood, lost } = restore(store, j)?;
     println!(
         rt,
-        "  revive with {j} keeps {kept} of the others: {stood} records stand, {lost} are lost"
+        "  revive with {j} keeps {kept} of the others; records that stand: {stood}, lost: {lost}"
     )?;
     held(rt, store)?;
     Ok(())
 }
 
-fn slots(rt: &LibcRuntime, j: u64) -> Result<(), Stop> {
+fn show_slots(rt: &LibcRuntime, j: u64) -> Result<(), Stop> {
     let mut slots = [Record::EMPTY; 8];
     let mut store = SlotStore::new(&mut slots);
-    println!(rt, "slot store of 8 slots")?;
-    show(rt, &mut store, j)
+    show(rt, "slot store", &mut store, j)
 }
 
 fn main(rt: LibcRuntime) -> Result<(), Stop> {
     for j in [0, 1, 2, 9] {
-        slots(&rt, j)?;
+        show_slots(&rt, j)?;
     }
     Ok(())
 }

@@ -1,4 +1,4 @@
-// The records of the drill: two are synced, two come later.
+// The records of the drill.
 use programs::values::Send;
 use programs::values::Sends;
 use programs::values::State;
@@ -8,7 +8,7 @@ use records::Interval;
 use records::Record;
 
 // Process 0 takes an input and sends it on to process 1, which outputs it.
-const SENT: Record = Record {
+pub const SENT: Record = Record {
     content: Content::Interval(Interval {
         process: 0,
         index: 1,
@@ -24,7 +24,7 @@ const SENT: Record = Record {
     }),
 };
 
-const TAKEN: Record = Record {
+pub const TAKEN: Record = Record {
     content: Content::Interval(Interval {
         process: 1,
         index: 1,
@@ -37,7 +37,7 @@ const TAKEN: Record = Record {
     }),
 };
 
-const MARK: Record = Record {
+pub const MARK: Record = Record {
     content: Content::Checkpoint(Checkpoint {
         process: 1,
         index: 1,
@@ -50,10 +50,6 @@ const MARK: Record = Record {
     }),
 };
 
-const LINE: Record = Record {
+pub const LINE: Record = Record {
     content: Content::Line([1, 1, 0, 0, 0, 0, 0, 0]),
 };
-
-pub const SYNCED: [Record; 2] = [SENT, TAKEN];
-
-pub const LATER: [Record; 2] = [MARK, LINE];
