@@ -3,6 +3,7 @@ ghost use mathlib.Core.Path.{_≡_};
 ghost use Prim.Native.Nat.{_≤_};
 ghost use Rattle.stores.specs.Calls.{appended, synced, armed, fetched, revived, kept, unsafe-count, room};
 ghost use Rattle.stores.specs.Faults.{answer};
+ghost use Rattle.stores.specs.Laws.{Safe-records-stand};
 ghost use Rattle.stores.specs.Meaning.{Meaning};
 ghost use lib.ListN.{length};
 use crate::fault::Fault;
@@ -56,4 +57,10 @@ pub fn free_slots<S: Store>(store: &S) -> u64
     ensures { λ r. ⌜ r ≡ room (S·Store .means (now (store .entry))) ⌝ }
 {
     store.capacity().saturating_sub(store.count())
+}
+
+// That no call and no loss of power takes or changes a safe record.
+pub fn safe_records_stand()
+    ensures { λ _. ⌜ Safe-records-stand ⌝ }
+{
 }
