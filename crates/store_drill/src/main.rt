@@ -16,6 +16,7 @@ use stores::slots::SlotStore;
 use stores::slots::SlotStoreStore;
 use stores::store::Store;
 use stores::store::free_slots;
+use stores::store::lasting_count;
 
 #[derive(Drop)]
 enum Stop {
@@ -37,7 +38,7 @@ impl From<Fault> for Stop as StopFromFault {
 
 fn held<S: Store>(rt: &LibcRuntime, store: &S) -> io::Result<()> {
     let count = store.count();
-    let safe = store.safe_count();
+    let safe = lasting_count(store);
     let power = if store.is_alive() { "alive" } else { "dead" };
     println!(
         rt,

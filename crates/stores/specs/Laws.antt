@@ -31,5 +31,8 @@ pub record Stands (before later : Meaning) : Type 0 where
   pub within : later .safe ≤ count later
 
 -- no calls, in any order, refused or not, and no loss of power take or change a safe record
-abbrev pub Safe-records-stand : Type 0
-Safe-records-stand = (calls : List Call) (m : Meaning) → m .safe ≤ count m → Stands m (after-all calls m)
+abbrev pub Lasting : Meaning → Type 0
+Lasting m = (calls : List Call) → Stands m (after-all calls m)
+
+abbrev pub Safe-records-last : Type 0
+Safe-records-last = (m : Meaning) → m .safe ≤ count m → Lasting m
