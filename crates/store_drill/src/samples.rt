@@ -1,4 +1,4 @@
-// The records of the drill.
+// The records of the drill: all three kinds.
 use programs::values::Send;
 use programs::values::Sends;
 use programs::values::State;
