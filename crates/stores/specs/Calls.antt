@@ -30,7 +30,7 @@ abbrev pub all-safe : Meaning → Meaning
 all-safe m =
     record { records = m .records; capacity = m .capacity; safe = count m; alive = m .alive; fuse = m .fuse }
 
--- what a write finds of power: with fuse 0 the store dies, the fuse becomes unset and the refusal is 40;
+-- what a write finds of power in a store that is alive: with fuse 0 the store dies, the fuse becomes unset and the refusal is 40;
 -- else a set fuse falls by 1
 abbrev pub spent : Bool → Option ℕ → Result (Unit {0}) ℕ × Power
 spent alive None = (Ok tt, record { alive = alive; fuse = None })

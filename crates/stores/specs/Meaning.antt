@@ -6,7 +6,8 @@ use lib.ListN.{length}
 use Rattle.std.specs.declared.option.Option.{Option}
 use Rattle.records.specs.declared.Record.{Record}
 
--- each store's capacity is at most 4,096, and no more is safe than there is; that the count is within the capacity is not said
+-- of each store the capacity is at most 4,096, and no more is safe than it holds;
+-- that it holds no more than its capacity is not said
 pub record Meaning : Type 0 where
   pub records : List Record
   pub capacity : ℕ

@@ -9,6 +9,7 @@ use Rattle.stores.specs.Meaning.{Meaning, count}
 use Rattle.stores.specs.declared.power.Power.{Power}
 use Rattle.stores.specs.declared.slots.SlotStore.{SlotStore}
 
+-- the list is the first slots, as many as are safe or pending; no more than there are
 abbrev pub laid : List Record → ℕ → ℕ → Power → Meaning
 laid slots safe pending power = record {
   records = take (safe + pending) slots;

@@ -18,7 +18,7 @@ impl Power {
         fuse: None,
     };
 
-    // The power for one write.
+    // The power for one write of a store that was alive before it.
     pub fn spend(&mut self) -> Result<(), Fault>
         ensures { λ r. ⌜ (answer r, now (self .exit)) ≡ spent (now (self .entry) .alive) (now (self .entry) .fuse) ⌝ }
     {

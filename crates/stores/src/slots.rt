@@ -65,6 +65,7 @@ impl SlotStore<'_> {
         self.slots[i]
     }
 
+    // Makes all records safe.
     fn settle(&mut self)
         ensures after { λ _. ⌜ meaning (now (self .exit)) ≡ all-safe (meaning (now (self .entry))) ⌝ }
         ensures same { λ _. ⌜ now (now (self .exit) .slots) ≡ now (now (self .entry) .slots) ⌝ }

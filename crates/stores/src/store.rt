@@ -3,6 +3,7 @@ ghost use mathlib.Core.Path.{_≡_};
 ghost use Prim.Native.Nat.{_≤_};
 ghost use Rattle.stores.specs.Calls.{appended, synced, armed, fetched, revived, kept, unsafe-count, room};
 ghost use Rattle.stores.specs.Faults.{answer};
+ghost use Rattle.stores.specs.Laws.{Lasting, Safe-records-last};
 ghost use Rattle.stores.specs.Meaning.{Meaning};
 ghost use lib.ListN.{length};
 use crate::fault::Fault;
@@ -56,4 +57,18 @@ pub fn free_slots<S: Store>(store: &S) -> u64
     ensures { λ r. ⌜ r ≡ room (S·Store .means (now (store .entry))) ⌝ }
 {
     store.capacity().saturating_sub(store.count())
+}
+
+// The law that what is safe lasts; there is nothing to run.
+fn safe_records_last()
+    ensures { λ _. ⌜ Safe-records-last ⌝ }
+{}
+
+// How many records of a store stand whatever is called and whenever the power goes.
+pub fn lasting_count<S: Store>(store: &S) -> u64
+    ensures value { λ r. ⌜ r ≡ S·Store .means (now (store .entry)) .safe ⌝ }
+    ensures lasting { λ _. ⌜ Lasting (S·Store .means (now (store .entry))) ⌝ }
+{
+    safe_records_last();
+    store.safe_count()
 }
