@@ -2,6 +2,8 @@
 mod drill;
 mod samples;
 
+use byte_store::ByteStore;
+use byte_store::ByteStoreStore;
 use drill::Loss;
 use drill::cut_power;
 use drill::restore;
@@ -79,9 +81,19 @@ fn show_slots(rt: &LibcRuntime, j: u64) -> Result<(), Stop> {
     show(rt, "slot store", &mut store, j)
 }
 
+fn show_bytes(rt: &LibcRuntime, j: u64) -> Result<(), Stop> {
+    let mut bytes = [0; 424];
+    let mut store = ByteStore::new(&mut bytes);
+    show(rt, "byte store", &mut store, j)
+}
+
 fn main(rt: LibcRuntime) -> Result<(), Stop> {
     for j in [0, 1, 2, 9] {
         show_slots(&rt, j)?;
+    }
+    // the frames of the records that are not safe have 39 and 13 bytes
+    for j in [0, 38, 39, 51, 52] {
+        show_bytes(&rt, j)?;
     }
     Ok(())
 }

@@ -1,6 +1,8 @@
 // What every store does, on examples; then what each store does with the memory that it is lent.
 #[cfg(test)]
 mod tests {
+    use byte_store::ByteStore;
+    use byte_store::ByteStoreStore;
     use programs::values::Send;
     use programs::values::Sends;
     use programs::values::State;
@@ -262,5 +264,30 @@ mod tests {
         check_eq(store.revive(u64::MAX), Ok(1))?;
         refuses(&store, 2, Fault::NoRecord)?;
         check_eq(slots, [checkpoint(1), line(7), line(7)])
+    }
+
+    #[test]
+    fn bytes_keep_all_kinds() -> Result<(), Fail> {
+        let mut bytes = [0; 265];
+        keeps_all_kinds(&mut ByteStore::new(&mut bytes))
+    }
+
+    #[test]
+    fn bytes_die_at_each_place() -> Result<(), Fail> {
+        for k in 0..7 {
+            let mut bytes = [0; 159];
+            dies_at(&mut ByteStore::new(&mut bytes), k)?;
+        }
+        Ok(())
+    }
+
+    // A line's frame has 13 bytes.
+    #[test]
+    fn bytes_revive() -> Result<(), Fail> {
+        let mut bytes = [0; 212];
+        revives_empty(&mut ByteStore::new(&mut bytes))?;
+        armed_while_dead(&mut ByteStore::new(&mut bytes))?;
+        forgets(&mut ByteStore::new(&mut bytes), 13)?;
+        forgets(&mut ByteStore::new(&mut bytes), 25)
     }
 }
