@@ -8,13 +8,11 @@ use native.Mathlib.Numerals.{add-one}
 use lib.ListN.{length, getD, take, drop, set, replicate}
 use Rattle.std.specs.Options.{valueOr}
 use Rattle.std.specs.shelf.Lists.{joined}
-use Rattle.std.specs.declared.option.Option.the-variants.{None, Some}
 use Rattle.std.proofs.shelf.Lists.{length-take, length-replicate, take-take, take-all, take-more, getD-take, getD-at, length-append, length-push, length-take-le, take-at, drop-at, take-append-drop, take-append-le, drop-drop, drop-replicate, getD-set-same, getD-set-other, joined-more}
 use Rattle.std.proofs.shelf.Tests.{cases-lt}
 use Rattle.records.specs.declared.Content.the-variants.{Line}
 use Rattle.records.specs.declared.Record.{Record}
 use Rattle.frames.specs.Frames.{framed, Typed, Wrote}
-use Rattle.frames.specs.Reads.{decoded}
 use Rattle.frames.proofs.Decoding.{read-back}
 use Rattle.byte_store.specs.Journals.{start, filed, found, zeroed, Exact}
 

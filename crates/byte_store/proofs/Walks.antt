@@ -1,7 +1,7 @@
 -- Going back over the frames of a journal, one at a time.
-use Prim.Native.Nat.{ℕ, suc, min, _+_, _*_, _-_, _<_, _≤_}
+use Prim.Native.Nat.{ℕ, suc, min, _+_, _-_, _<_, _≤_}
 use mathlib.Core.Path.{_≡_, refl, sym, ap, subst, _∙_}
-use mathlib.Core.List.{List, [], _∷_, _++_, append-nil}
+use mathlib.Core.List.{List, [], _∷_, append-nil}
 use mathlib.Core.Logic.{_⊎_, inl, inr, ⊎-elim}
 use native.Mathlib.Omega.{arith}
 use lib.ListN.{length, take, drop}
@@ -12,7 +12,7 @@ use Rattle.std.proofs.shelf.Tests.{cases-lt, cond-true, cond-false, le-leb, lt-
 use Rattle.records.specs.declared.Record.{Record}
 use Rattle.frames.specs.Frames.{framed}
 use Rattle.byte_store.specs.declared.journal.Journal.{Journal}
-use Rattle.byte_store.specs.Journals.{number, extent, start, filed, listed, Whole, Exact, Ends, standing}
+use Rattle.byte_store.specs.Journals.{number, extent, start, listed, Whole, Ends, standing}
 use Rattle.byte_store.proofs.Filed.{length-filed, filed-less, joined-grows, joined-append}
 
 pub length-listed : (j : Journal) → length (listed j) ≡ number j

@@ -2,10 +2,9 @@
 ghost use mathlib.Core.List.{[], _∷_, _++_};
 ghost use mathlib.Core.Path.{_≡_};
 ghost use Prim.Native.Nat.{_+_, _<_, _≤_, min};
-ghost use lib.ListN.{length, replicate, take, drop, getD};
+ghost use lib.ListN.{length, replicate, take, drop};
 ghost use mathlib.Core.Bool.{true};
 ghost use Rattle.std.specs.Results.{isOk};
-ghost use Rattle.records.specs.declared.Record.{Record as Row};
 ghost use Rattle.stores.specs.Calls.{appended, synced, armed, revived, kept, unsafe-count, all-safe, with-records};
 ghost use Rattle.stores.specs.Faults.{answer};
 ghost use Rattle.stores.specs.Meaning.{count};

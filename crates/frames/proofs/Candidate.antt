@@ -1,9 +1,9 @@
 -- The candidate of a frame is the record that it was written from.
-use Prim.Native.Nat.{ℕ, _+_, _*_, _/_, _%_, _^_, _<_}
+use Prim.Native.Nat.{ℕ, _+_, _^_, _<_}
 use mathlib.Core.Path.{_≡_, refl, sym, ap, subst, _∙_}
-use mathlib.Core.List.{List, [], _∷_, _++_}
+use mathlib.Core.List.{List, _++_}
 use native.Mathlib.Omega.{arith}
-use lib.ListN.{length, getD, drop}
+use lib.ListN.{length}
 use Rattle.std.specs.declared.option.Option.{Option}
 use Rattle.std.specs.declared.option.Option.the-variants.{None, Some}
 use Rattle.std.proofs.shelf.Lists.{drop-more, drop-all}
@@ -15,8 +15,8 @@ use Rattle.records.specs.declared.Content.the-variants.{Interval, Checkpoint, L
 use Rattle.records.specs.declared.Checkpoint.{Checkpoint as Noted}
 use Rattle.records.specs.declared.Interval.{Interval as Passed}
 use Rattle.records.specs.declared.Record.{Record}
-use Rattle.frames.specs.Frames.{framed, word, sends-part, output-part, Words, Word, Held, Typed}
-use Rattle.frames.specs.Reads.{word-at, entries-at, candidate, sends-at, output-at}
+use Rattle.frames.specs.Frames.{framed, word, Words, Word, Held, Typed}
+use Rattle.frames.specs.Reads.{word-at, entries-at, candidate}
 
 entries-whole : (v : List ℕ) → length v ≡ 8 → v ≡ entries-at v 0
 entries-whole v e =

@@ -1,5 +1,5 @@
 -- What is written is read back, and what is torn is not.
-use Prim.Native.Nat.{ℕ, _+_, _-_, _%_, _<_, _≤_, zero, suc}
+use Prim.Native.Nat.{ℕ, _+_, _-_, _%_, _<_, _≤_}
 use mathlib.Core.Path.{_≡_, refl, sym, ap, subst, _∙_}
 use mathlib.Core.Bool.{Bool, true, false, cond}
 use mathlib.Core.List.{List, [], _∷_, _++_, append-assoc}

@@ -5,7 +5,7 @@ use native.Mathlib.Omega.{arith}
 use lib.ListN.{length, take, set}
 use Rattle.frames.specs.Frames.{framed, Wrote}
 use Rattle.frames.proofs.Decoding.{length-framed, long-bounds}
-use Rattle.byte_store.specs.Journals.{number, extent, listed, filed, Exact}
+use Rattle.byte_store.specs.Journals.{number, extent, listed, filed}
 use Rattle.byte_store.proofs.Filed.{filed-push, exact-push, same-exact, length-filed}
 use Rattle.byte_store.proofs.Walks.{length-listed}
 use Rattle.byte_store.proofs.journal.Journal.push.Needs as need

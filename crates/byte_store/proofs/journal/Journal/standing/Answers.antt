@@ -1,4 +1,4 @@
-use Prim.Native.Nat.{min, _+_, _-_, _<_}
+use Prim.Native.Nat.{min, _+_, _-_}
 use mathlib.Core.Path.{_≡_, ap, _∙_}
 use mathlib.Core.Logic.{inl, inr}
 use native.Mathlib.Omega.{arith}
