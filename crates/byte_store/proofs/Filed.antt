@@ -57,20 +57,24 @@ module _ (bs starts out : List ℕ) (n at end : ℕ) (x : Record) (typed : Typed
   exact-push {rs} e count same-length fits =
       let J = joined framed rs in
       let more : J ++ framed x ≡ joined framed (rs ++ x ∷ []) = joined-more framed [] rs x in
-      let front : take at bs ≡ J = ap (take at) (e .frames) ∙ take-at J (replicate (length bs - at) 0) at (sym (e .stop)) in
+      let front : take at bs ≡ J = ap (take at) (e .frames) ∙ take-at J (replicate (length bs - length J) 0) at (sym (e .stop)) in
       let late : end ≡ at + length (framed x) = wrote .stop in
       let split : end ≡ at + (end - at) = omega arith in
-      let zeros : drop at bs ≡ replicate (length bs - at) 0 = ap (drop at) (e .frames) ∙ drop-at J (replicate (length bs - at) 0) at (sym (e .stop)) in
-      let left : (length bs - at) - (end - at) ≡ length out - end = omega arith in
-      let behind : drop end bs ≡ replicate (length out - end) 0 =
-      ap (λ k. drop k bs) split ∙ sym (drop-drop (end - at) at bs) ∙ ap (drop (end - at)) zeros
-      ∙ drop-replicate (end - at) (length bs - at) 0 ∙ ap (λ k. replicate k 0) left in
+      let zeros : drop at bs ≡ replicate (length bs - length J) 0 =
+      ap (drop at) (e .frames) ∙ drop-at J (replicate (length bs - length J) 0) at (sym (e .stop)) in
+      let stop : end ≡ length (joined framed (rs ++ x ∷ [])) =
+      omega (arith, wrote .stop, e .stop, length-append J (framed x), ap length more) in
+      let left : (length bs - length J) - (end - at) ≡ length out - length (joined framed (rs ++ x ∷ [])) =
+      omega (arith, e .stop) in
+      let cut : drop end bs ≡ drop (end - at) (drop at bs) = ap (λ k. drop k bs) split ∙ sym (drop-drop (end - at) at bs) in
+      let behind : drop end bs ≡ replicate (length out - length (joined framed (rs ++ x ∷ []))) 0 =
+      cut ∙ ap (drop (end - at)) zeros ∙ drop-replicate (end - at) (length bs - length J) 0 ∙ ap (λ k. replicate k 0) left in
       record {
         frames =
             sym (take-append-drop end out)
             ∙ ap (λ xs. xs ++ drop end out) (wrote .front ∙ ap (λ xs. xs ++ framed x) front ∙ more)
             ∙ ap (λ xs. joined framed (rs ++ x ∷ []) ++ xs) (wrote .back ∙ behind);
-        stop = omega (arith, wrote .stop, e .stop, length-append J (framed x), ap length more);
+        stop = stop;
         begin = λ k h.
             ⊎-elim
             (λ below.
@@ -141,7 +145,7 @@ joined-append (x ∷ xs) ys =
 -- the first k frames, with zeros behind them
 pub exact-cut : (bs starts : List ℕ) (n k e end : ℕ) (L : List Record) → Exact bs starts n e L → k ≤ n → end ≡ length (joined framed (take k L)) → end ≤ length bs → Exact (zeroed end bs) starts k end (take k L)
 exact-cut bs starts n k e end L h fewer stop inside =
-    let Z : List ℕ = replicate (length bs - e) 0 in
+    let Z : List ℕ = replicate (length bs - length (joined framed L)) 0 in
     let split : joined framed L ≡ joined framed (take k L) ++ joined framed (drop k L) =
     ap (joined framed) (sym (take-append-drop k L)) ∙ joined-append (take k L) (drop k L) in
     let front : take end bs ≡ joined framed (take k L) =
@@ -150,7 +154,8 @@ exact-cut bs starts n k e end L h fewer stop inside =
     record {
       frames =
           ap (λ xs. xs ++ replicate (length bs - end) 0) front
-          ∙ ap (λ m. joined framed (take k L) ++ replicate (m - end) 0) (sym (length-zeroed end bs inside));
+          ∙ ap (λ m. joined framed (take k L) ++ replicate (m - end) 0) (sym (length-zeroed end bs inside))
+          ∙ ap (λ m. joined framed (take k L) ++ replicate (length (zeroed end bs) - m) 0) stop;
       stop = stop;
       begin = λ i l.
           h .begin i (omega arith) ∙ ap (λ xs. length (joined framed xs)) (sym (take-take i k L (omega arith)));

@@ -40,9 +40,13 @@ filed (suc n) starts bs = filed n starts (take (start starts n) bs) ++ found (dr
 abbrev pub listed : Journal → List Record
 listed j = filed (number j) (j .starts) (take (extent j) (j .bytes .now))
 
--- the bytes are exactly the frames of the records, with zeros behind them, and the starts are theirs
+-- the bytes are exactly the frames of the records, with zeros behind them
+abbrev pub Frames-and-zeros : List ℕ → List Record → Type 0
+Frames-and-zeros bytes records = bytes ≡ joined framed records ++ replicate (length bytes - length (joined framed records)) 0
+
+-- they are, and the starts are those of the frames
 pub record Exact (bytes starts : List ℕ) (count used : ℕ) (records : List Record) : Type 0 where
-  pub frames : bytes ≡ joined framed records ++ replicate (length bytes - used) 0
+  pub frames : Frames-and-zeros bytes records
   pub stop : used ≡ length (joined framed records)
   pub begin : (k : ℕ) → k < count → start starts k ≡ length (joined framed (take k records))
 

@@ -9,7 +9,7 @@ ghost use Rattle.stores.specs.Calls.{appended, synced, armed, revived, kept, un
 ghost use Rattle.stores.specs.Faults.{answer};
 ghost use Rattle.stores.specs.Meaning.{count};
 ghost use Rattle.byte_store.specs.Bytes.{means as meaning, empty, medium, Sound, filled, cleared};
-ghost use Rattle.byte_store.specs.Journals.{standing};
+ghost use Rattle.byte_store.specs.Journals.{standing, Frames-and-zeros};
 use crate::journal::Journal;
 use frames::write::LARGEST;
 use records::Record;
@@ -46,7 +46,8 @@ impl<'a> ByteStore<'a> {
 impl ByteStore<'_> {
     // The bytes as they are: the frames of the records, and zeros behind them.
     pub fn bytes(&self) -> &[u8]
-        ensures { λ r. ⌜ now r ≡ medium (now (self .entry)) ⌝ }
+        ensures value { λ r. ⌜ now r ≡ medium (now (self .entry)) ⌝ }
+        ensures frames { λ r. ⌜ (Sound (now (self .entry)) → Frames-and-zeros (now r) (meaning (now (self .entry)) .records)) ⌝ }
     {
         self.journal.bytes()
     }
