@@ -1,0 +1,43 @@
+-- What a runner's calls answer, and what they leave.
+use Prim.Native.Nat.{ℕ, _<_, _≤_}
+use mathlib.Core.List.{[]}
+use mathlib.Core.Logic.{_⊎_}
+use mathlib.Core.Path.{_≡_}
+use Rattle.std.specs.declared.result.Result.{Result}
+use Rattle.std.specs.declared.result.Result.the-variants.{Ok, Err}
+use Rattle.programs.specs.Program.{Meaning}
+use Rattle.runs.specs.Run.{Move, took, moved, Makes, Fresh}
+use Rattle.runs.specs.Held.{count, configuration, Unchanged}
+use Rattle.runs.specs.declared.runner.RunError.{RunError}
+use Rattle.runs.specs.declared.runner.RunError.the-variants.{ProcessCount, NoSuchProcess, NothingWaiting, Memory}
+use Rattle.runs.specs.declared.runner.Runner.{Runner}
+
+-- a runner of N processes, 1 to 8, is at the beginning of a run; want of memory can always be
+abbrev pub Begins : {P : Type 0} → Meaning → P → ℕ → Result (Runner P) RunError → Type 0
+Begins M program N (Ok r) = (r .program ≡ program) × (count r ≡ N) × Fresh M N (configuration r)
+Begins M program N (Err ProcessCount) = (N < 1) ⊎ (8 < N)
+Begins M program N (Err NoSuchProcess) = ⊥
+Begins M program N (Err NothingWaiting) = ⊥
+Begins M program N (Err Memory) = (1 ≤ N) × (N ≤ 8)
+
+-- one move was made, by the same program and processes
+pub record Advanced {P : Type 0} (M : Meaning) (m : Move) (a b : Runner P) : Type 0 where
+  pub program : b .program ≡ a .program
+  pub processes : count b ≡ count a
+  pub move : Makes M (count a) m (configuration a) (configuration b)
+
+-- take (p, v): refused only for a process that does not exist, or for want of memory
+abbrev pub Takes : {P : Type 0} → Meaning → ℕ → ℕ → Runner P → Runner P → Result (Unit {0}) RunError → Type 0
+Takes M p v a b (Ok _) = Advanced M (took p v) a b
+Takes M p v a b (Err ProcessCount) = ⊥
+Takes M p v a b (Err NoSuchProcess) = (count a ≤ p) × Unchanged a b
+Takes M p v a b (Err NothingWaiting) = ⊥
+Takes M p v a b (Err Memory) = (p < count a) × Unchanged a b
+
+-- move (q, p): answers the value that moved; an empty channel allows no move
+abbrev pub Moves : {P : Type 0} → Meaning → ℕ → ℕ → Runner P → Runner P → Result ℕ RunError → Type 0
+Moves M q p a b (Ok v) = Advanced M (moved q p v) a b
+Moves M q p a b (Err ProcessCount) = ⊥
+Moves M q p a b (Err NoSuchProcess) = ((count a ≤ q) ⊎ (count a ≤ p)) × Unchanged a b
+Moves M q p a b (Err NothingWaiting) = (q < count a) × (p < count a) × (configuration a .waiting q p ≡ []) × Unchanged a b
+Moves M q p a b (Err Memory) = (q < count a) × (p < count a) × (configuration a .waiting q p ≡ [] → ⊥) × Unchanged a b

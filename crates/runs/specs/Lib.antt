@@ -1,0 +1,4 @@
+pub mod Run
+pub mod Held
+pub mod Answers
+pub mod Inside

@@ -1,0 +1,63 @@
+// The runner: a program's processes, what waits between them, and what they have put out.
+ghost use Prim.Native.Nat.{_≤_};
+ghost use Rattle.std.specs.Of.Vec.{vec-len};
+ghost use Rattle.runs.specs.declared.runner.RunError.the-variants.{Memory};
+ghost use mathlib.Core.Path.{_≡_};
+use programs::values::State;
+use std::alloc::AllocError;
+use std::alloc::Refused;
+
+mod making;
+mod reading;
+mod stepping;
+
+// A value on its way from the process `source` to the process `target`.
+#[derive(Clone, Copy, PartialEq, Eq, Debug)]
+pub struct Message {
+    pub source: u8,
+    pub target: u8,
+    pub value: u64,
+}
+
+#[derive(Clone, Copy, PartialEq, Eq, Debug)]
+pub struct Output {
+    pub process: u8,
+    pub value: u64,
+}
+
+#[derive(Drop)]
+pub struct Runner<P> {
+    program: P,
+    states: Vec<State>,
+    // of all channels, in the order in which they were sent
+    waiting: Vec<Message>,
+    // of all processes, in the order in which they came
+    outputs: Vec<Output>,
+    ghost few: { vec-len states ≤ 8 },
+}
+
+// Why a runner was not made, or did not move: it is then as it was.
+#[derive(Clone, Copy, PartialEq, Eq, Debug)]
+pub enum RunError {
+    // a run has 1 to 8 processes
+    ProcessCount,
+    NoSuchProcess,
+    NothingWaiting,
+    Memory,
+}
+
+pub impl From<AllocError> for RunError as RunErrorFromAlloc {
+    ghost converts = { λ _ r. r ≡ Memory };
+
+    fn from(_e: AllocError) -> RunError {
+        RunError::Memory
+    }
+}
+
+pub impl<T: Drop> From<Refused<T>> for RunError as RunErrorFromRefused {
+    ghost converts = { λ _ r. r ≡ Memory };
+
+    fn from(_e: Refused<T>) -> RunError {
+        RunError::Memory
+    }
+}
