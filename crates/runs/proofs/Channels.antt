@@ -1,20 +1,23 @@
 -- What a push and a removal do to the channels of a list of messages, and a push to the outputs.
-use Prim.Native.Nat.{ℕ, _+_, _<_, suc}
-use mathlib.Core.Bool.{Bool, _&&_}
+use Prim.Native.Nat.{ℕ, _+_, _-_, _<_, _≤_, suc}
+use mathlib.Core.Bool.{Bool, true, _&&_}
 use mathlib.Core.List.{List, [], _∷_, _++_, map}
-use mathlib.Core.Path.{_≡_, refl, sym, ap, _∙_}
+use mathlib.Core.Logic.{_⊎_, inl, inr}
+use mathlib.Core.Path.{_≡_, refl, sym, ap, subst, _∙_}
 use native.Mathlib.Omega.{arith}
-use lib.Dec.{eqb}
+use lib.Dec.{eqb, ltb}
 use lib.ListN.{length, getD, take, drop}
 use lib.Seq.{drop-cons}
 use Rattle.std.specs.Holes.{removed}
 use Rattle.std.specs.Vec.{listOf}
-use Rattle.std.specs.shelf.Lists.{kept-by}
+use Rattle.std.specs.shelf.Lists.{kept-by, All}
 use Rattle.std.specs.declared.option.Option.{Option}
 use Rattle.std.specs.declared.option.Option.the-variants.{Some, None}
-use Rattle.std.proofs.shelf.Elements.{kept-by-append}
-use Rattle.std.proofs.shelf.Lists.{map-append, append-nil, take-append-drop, take-more, getD-default}
+use Rattle.std.proofs.shelf.Elements.{kept-by-append, kept-by-passes, all-getD, all-map, all-weaker}
+use Rattle.std.proofs.shelf.Lists.{map-append, append-nil, take-append-drop, take-more, getD-default, getD-append-left, getD-append-right, length-append}
+use Rattle.std.proofs.shelf.Tests.{cases-lt, ltb-true}
 use Rattle.std.proofs.shelf.Ways.{tells}
+use Rattle.programs.specs.Values.{reaching}
 use Rattle.programs.specs.declared.values.Send.{Send}
 use Rattle.runs.specs.Run.{sent-to}
 use Rattle.runs.specs.Held.{channel, outputs-of}
@@ -76,3 +79,22 @@ outputs-own p (Some v) = grind (arith, tells)
 pub outputs-others : (r p : ℕ) (o : Option ℕ) → (r ≡ p → ⊥) → outputs-of r (map (output p) (listOf o)) ≡ []
 outputs-others r p None n = refl
 outputs-others r p (Some v) n = grind (arith, tells)
+
+-- a bound on a field of each message lasts over a push; the two lengths are those of the lists
+pub pushed-below : (field : Message → ℕ) (n : ℕ) (old new all : List Message) (before after : ℕ) → before ≡ length old → after ≡ length all → all ≡ old ++ new →
+    ((k : ℕ) (d : Message) → k < before → field (getD old k d) < n) → All (λ m. field m < n) new → (k : ℕ) (d : Message) → k < after → field (getD all k d) < n
+pushed-below field n old new all before after e f joined bound fresh k d h = rw joined (go (cases-lt k (length old)))
+  where
+    go : (k < length old) ⊎ (length old ≤ k) → field (getD (old ++ new) k d) < n
+    go (inl a) = rw (getD-append-left old new d k a) (bound k d (omega arith))
+    go (inr a) =
+        let within : k - length old < length new = omega (arith, simp length-append at (ap length joined)) in
+        rw (getD-append-right old new (length old) k d refl a) (all-getD (λ m. field m < n) new (k - length old) d within fresh)
+
+pub own-sources : (p n : ℕ) (ms : List Send) → p < n → All (λ m. m .source < n) (map (message p) ms)
+own-sources p n [] h = tt
+own-sources p n (m ∷ ms) h = (h, own-sources p n ms h)
+
+pub reached-targets : (p n : ℕ) (ms all : List Send) → ms ≡ reaching n all → All (λ m. m .target < n) (map (message p) ms)
+reached-targets p n ms all e = all-map (λ (m : Message). m .target < n) (message p) ms
+    (rw e (all-weaker (λ m. ltb (m .target) n ≡ true) (λ m. m .target < n) (λ m h. ltb-true (m .target) n h) (reaching n all) (kept-by-passes (λ m. ltb (m .target) n) all)))

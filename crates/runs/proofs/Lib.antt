@@ -1,2 +1,3 @@
 mod Channels
 mod Moves
+mod Settling

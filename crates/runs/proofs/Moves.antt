@@ -39,10 +39,10 @@ steps-lists M N p source value ss ms os exists within =
       silent = λ r n. outputs-append r os (map (output p) (listOf (after .2))) ∙ ap (λ vs. outputs-of r os ++ vs) (outputs-others r p (after .2) n) ∙ append-nil (outputs-of r os);
     }
 
-same-lists-configuration : {ss ss′ : List State} {ms ms′ : List Message} {os os′ : List Output} → ss ≡ ss′ → ms ≡ ms′ → os ≡ os′ → of-lists ss ms os ≡ of-lists ss′ ms′ os′
+pub same-lists-configuration : {ss ss′ : List State} {ms ms′ : List Message} {os os′ : List Output} → ss ≡ ss′ → ms ≡ ms′ → os ≡ os′ → of-lists ss ms os ≡ of-lists ss′ ms′ os′
 same-lists-configuration {ss} {ss′} {ms} {ms′} {os} {os′} e f g = ap (λ x. of-lists x ms os) e ∙ ap (λ x. of-lists ss′ x os) f ∙ ap (λ x. of-lists ss′ ms′ x) g
 
-same-count : {P : Type 0} (a b : Runner P) → length (vec-items (b .states)) ≡ length (vec-items (a .states)) → count b ≡ count a
+pub same-count : {P : Type 0} (a b : Runner P) → length (vec-items (b .states)) ≡ length (vec-items (a .states)) → count b ≡ count a
 same-count a b e = b .states .ok .0 ∙ e ∙ sym (a .states .ok .0)
 
 steps : {P : Type 0} (M : Meaning) (p source value : ℕ) (a b : Runner P) → p < count a → Stepped M p source value a b → Steps M (count a) p source value (configuration a) (configuration b)

@@ -1,12 +1,15 @@
 -- What a runner's calls answer, and what they leave.
 use Prim.Native.Nat.{ℕ, _<_, _≤_}
-use mathlib.Core.List.{[]}
+use mathlib.Core.List.{List, []}
+use mathlib.Core.Bool.{Bool, true, false}
 use mathlib.Core.Logic.{_⊎_}
 use mathlib.Core.Path.{_≡_}
+use lib.ListN.{length}
 use Rattle.std.specs.declared.result.Result.{Result}
 use Rattle.std.specs.declared.result.Result.the-variants.{Ok, Err}
+use Rattle.std.specs.shelf.Lists.{All}
 use Rattle.programs.specs.Program.{Meaning}
-use Rattle.runs.specs.Run.{Move, took, moved, Makes, Fresh}
+use Rattle.runs.specs.Run.{Configuration, Move, took, moved, Makes, Leads, Fresh}
 use Rattle.runs.specs.Held.{count, configuration, Unchanged}
 use Rattle.runs.specs.declared.runner.RunError.{RunError}
 use Rattle.runs.specs.declared.runner.RunError.the-variants.{ProcessCount, NoSuchProcess, NothingWaiting, Memory}
@@ -41,3 +44,29 @@ Moves M q p a b (Err ProcessCount) = ⊥
 Moves M q p a b (Err NoSuchProcess) = ((count a ≤ q) ⊎ (count a ≤ p)) × Unchanged a b
 Moves M q p a b (Err NothingWaiting) = (q < count a) × (p < count a) × (configuration a .waiting q p ≡ []) × Unchanged a b
 Moves M q p a b (Err Memory) = (q < count a) × (p < count a) × (configuration a .waiting q p ≡ [] → ⊥) × Unchanged a b
+
+-- nothing waits
+abbrev pub Quiet : Configuration → Type 0
+Quiet c = (q p : ℕ) → c .waiting q p ≡ []
+
+-- a delivery, and no input
+abbrev pub Delivery : Move → Type 0
+Delivery (took p v) = ⊥
+Delivery (moved q p v) = Unit {0}
+
+-- deliveries were made, as many as the list has, by the same program and processes
+pub record Delivered {P : Type 0} (M : Meaning) (ms : List Move) (a b : Runner P) : Type 0 where
+  pub program : b .program ≡ a .program
+  pub processes : count b ≡ count a
+  pub deliveries : All Delivery ms
+  pub moves : Leads M (count a) ms (configuration a) (configuration b)
+
+-- settling: deliveries until nothing waits, or until the limit; it answers whether nothing waits.
+-- Want of memory ends it after some of them
+abbrev pub Settles : {P : Type 0} → Meaning → ℕ → Runner P → Runner P → Result Bool RunError → Type 0
+Settles M limit a b (Ok true) = (ms : List Move) × (Delivered M ms a b × (length ms ≤ limit) × Quiet (configuration b))
+Settles M limit a b (Ok false) = (ms : List Move) × (Delivered M ms a b × (length ms ≡ limit) × (Quiet (configuration b) → ⊥))
+Settles M limit a b (Err ProcessCount) = ⊥
+Settles M limit a b (Err NoSuchProcess) = ⊥
+Settles M limit a b (Err NothingWaiting) = ⊥
+Settles M limit a b (Err Memory) = (ms : List Move) × (Delivered M ms a b × (length ms < limit))

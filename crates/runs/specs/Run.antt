@@ -53,6 +53,11 @@ abbrev pub Makes : Meaning → ℕ → Move → Configuration → Configuration 
 Makes M N (took p v) a b = Steps M N p 8 v a b
 Makes M N (moved q p v) a b = (c : Configuration) × (Leaves q p v a c × Steps M N p q v c b)
 
-pub data Run (M : Meaning) (N : ℕ) : List Move → Configuration → Type 0 where
-  begins : {c : Configuration} → Fresh M N c → Run M N [] c
-  goes-on : {ms : List Move} {a b : Configuration} → Run M N ms a → (m : Move) → Makes M N m a b → Run M N (ms ++ m ∷ []) b
+-- moves, one upon the result of the other
+pub data Leads (M : Meaning) (N : ℕ) : List Move → Configuration → Configuration → Type 0 where
+  stays : {c : Configuration} → Leads M N [] c c
+  goes-on : {ms : List Move} {a b c : Configuration} → Leads M N ms a b → (m : Move) → Makes M N m b c → Leads M N (ms ++ m ∷ []) a c
+
+-- a run without failure, by its moves, ends in a configuration
+abbrev pub Run : Meaning → ℕ → List Move → Configuration → Type 0
+Run M N ms c = (first : Configuration) × (Fresh M N first × Leads M N ms first c)

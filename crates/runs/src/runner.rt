@@ -1,6 +1,8 @@
 // The runner: a program's processes, what waits between them, and what they have put out.
-ghost use Prim.Native.Nat.{_≤_};
-ghost use Rattle.std.specs.Of.Vec.{vec-len};
+ghost use Prim.Native.Nat.{ℕ, _≤_, _<_};
+ghost use Rattle.std.specs.Of.Vec.{vec-len, vec-items};
+ghost use lib.ListN.{getD};
+ghost use Rattle.runs.specs.declared.runner.Message.{Message as Sent};
 ghost use Rattle.runs.specs.declared.runner.RunError.the-variants.{Memory};
 ghost use mathlib.Core.Path.{_≡_};
 use programs::values::State;
@@ -9,6 +11,7 @@ use std::alloc::Refused;
 
 mod making;
 mod reading;
+mod settling;
 mod stepping;
 
 // A value on its way from the process `source` to the process `target`.
@@ -34,6 +37,9 @@ pub struct Runner<P> {
     // of all processes, in the order in which they came
     outputs: Vec<Output>,
     ghost few: { vec-len states ≤ 8 },
+    // what waits is between processes that exist
+    ghost sources: { (k : ℕ) (d : Sent) → k < vec-len waiting → getD (vec-items waiting) k d .source < vec-len states },
+    ghost targets: { (k : ℕ) (d : Sent) → k < vec-len waiting → getD (vec-items waiting) k d .target < vec-len states },
 }
 
 // Why a runner was not made, or did not move: it is then as it was.
