@@ -55,7 +55,7 @@ steps-count M p source value a b s = same-count a b (ap length (s .states) ∙ l
 
 pub takes : {P : Type 0} (M : Meaning) (p value : ℕ) (a b : Runner P) → p < count a → Stepped M p 8 value a b → Advanced M (took p value) a b
 takes M p value a b exists s =
-    record { program = s .program; processes = steps-count M p 8 value a b s; move = steps M p 8 value a b exists s }
+    record { program = s .program; processes = steps-count M p 8 value a b s; move = steps M p 8 value a b exists s; grown = (_, s .outputs) }
 
 -- b is a without its message at i, and c is b after the step
 pub moves : {P : Type 0} (M : Meaning) (q p i value : ℕ) (a b c : Runner P) → p < count a → Frees q p i (vec-items (a .waiting)) →
@@ -79,6 +79,7 @@ moves M q p i value a b c exists free read program states outputs rest s =
           subst (λ n. Steps M n p q value (configuration b) (configuration c)) processes (steps M p q value b c (subst (λ n. p < n) (sym processes) exists) s),
         ),
       );
+      grown = (_, s .outputs ∙ ap (λ v. vec-items v ++ map (output p) (listOf (M .step p (getD (vec-items (b .states)) p zeros) q value .2))) outputs);
     }
 
 -- what was made from a runner that is as before was made from the one before
@@ -91,6 +92,7 @@ advanced-from M m a b c same done =
       move = subst (λ x. Makes (M x) (count a) m (configuration a) (configuration c)) (same .program)
           (subst (λ n. Makes (M (b .program)) n m (configuration a) (configuration c)) processes
           (subst (λ x. Makes (M (b .program)) (count b) m x (configuration c)) (same-lists-configuration (same .states) (same .waiting) (same .outputs)) (done .move)));
+      grown = (done .grown .0, done .grown .1 ∙ ap (λ os. os ++ done .grown .0) (same .outputs));
     }
 
 pub exists-still : {P : Type 0} (p : ℕ) (a b : Runner P) → Unchanged a b → p < count a → p < count b

@@ -49,6 +49,8 @@ pub enum RunError {
     ProcessCount,
     NoSuchProcess,
     NothingWaiting,
+    // messages still wait after as many deliveries as were allowed
+    Unsettled,
     Memory,
 }
 

@@ -1,14 +1,15 @@
 use Prim.Native.Nat.{_+_, _<_}
 use mathlib.Core.List.{[], _∷_, _++_}
-use mathlib.Core.Path.{_≡_, refl, _∙_, ap}
+use mathlib.Core.Path.{_≡_, refl, sym, ap, _∙_}
 use native.Mathlib.Omega.{arith}
 use borrow.Author.Needs.{needs}
 use lib.ListN.{getD}
 use Rattle.std.specs.Of.Vec.{vec-items, vec-len}
 use Rattle.std.proofs.shelf.Lists.{length-push}
+use Rattle.std.proofs.shelf.Tests.{eqb-true, eqb-false}
 use Rattle.std.proofs.shelf.Results.{err-from-errBy}
 use Rattle.runs.specs.Run.{moved}
-use Rattle.runs.proofs.Settling.{delivered-none, delivered-more, quiet-none, settled, settles-refused}
+use Rattle.runs.proofs.Settling.{delivered-none, delivered-more, quiet-none, still-waits, settles-refused}
 use Rattle.runs.proofs.runner.Runner.settle.Needs as need
 
 pub loop-holds : need.loop-holds
@@ -39,5 +40,10 @@ loop-again g c =
       ),
     )
 
-pub returns : need.returns
-returns g c = settled (g .P·Program .means (c .args .self .now .program)) (c .args .limit) (c .loop .inv .0) (c .args .self .now) (c .loop .self) (c .loop .inv .1 .0) (omega (arith, c .loop .inv .1 .1)) (c .is-empty .result) (c .is-empty .ensures)
+pub returns-then-is-empty : need.returns-then-is-empty
+returns-then-is-empty g c =
+    (c .loop .inv .0, (c .loop .inv .1 .0, omega (arith, c .loop .inv .1 .1), quiet-none (c .loop .self) (eqb-true (vec-len (c .loop .self .waiting)) 0 (sym (c .if-is-empty .ensures tt)))))
+
+pub returns-else-is-empty : need.returns-else-is-empty
+returns-else-is-empty g c =
+    (c .loop .inv .0, (c .loop .inv .1 .0, omega (arith, c .loop .inv .1 .1), still-waits (c .loop .self) (eqb-false (vec-len (c .loop .self .waiting)) 0 (sym (c .if-is-empty .ensures tt)))))
