@@ -1,2 +1,3 @@
 mod Splits
 mod Words
+mod Carrying
