@@ -33,8 +33,10 @@ module _ (e : Entry) (a b c : Shop) (first : Advanced orders (input e) (a .run) 
     deliveries = rest .deliveries;
     moves = leads-first (input e) (subst (λ n. Makes orders n (input e) (standing a) (standing b)) (a .three) (first .move))
         (subst (λ n. Leads orders n ms (standing b) (standing c)) (b .three) (rest .moves));
-    grown = (first .grown .0 ++ rest .grown .0,
-        rest .grown .1 ∙ ap (λ os. os ++ rest .grown .0) (first .grown .1) ∙ append-assoc (issued a) (first .grown .0) (rest .grown .0));
+    grown = (
+      first .grown .0 ++ rest .grown .0,
+      rest .grown .1 ∙ ap (λ os. os ++ rest .grown .0) (first .grown .1) ∙ append-assoc (issued a) (first .grown .0) (rest .grown .0),
+    );
   }
 
   pub carries : (limit : ℕ) (r : Result (Unit {0}) RunError) → Settles orders limit (b .run) (c .run) r → Carries e a c r

@@ -44,11 +44,11 @@ module _ (text : List ℕ) (r : Option (RefT (List ℕ) × RefT (List ℕ))) (sp
     pub numbers : (o : Order) → Spells text o → Number (x .0 .now) (o .number) × Number (x .1 .now) (o .quantity)
     numbers o s =
         let parts = cases-at-some ⊥ (λ y. (y .0 .now ≡ s .0) × (y .1 .now ≡ s .1 .0)) x is
-              (split-after 32 text (s .0) (s .1 .0) r split (lit< tt) (s .1 .1 .0) (no-space (s .0) (o .number) (s .1 .1 .1))) in
+        (split-after 32 text (s .0) (s .1 .0) r split (lit< tt) (s .1 .1 .0) (no-space (s .0) (o .number) (s .1 .1 .1))) in
         (subst (λ t. Number t (o .number)) (sym (parts .0)) (s .1 .1 .1), subst (λ t. Number t (o .quantity)) (sym (parts .1)) (s .1 .1 .2))
 
     pub spells : (o : Order) → Number (x .0 .now) (o .number) → Number (x .1 .now) (o .quantity) → Spells text o
     spells o m n =
         let parts = cases-at-some ((i : ℕ) → i < length text → getD text i 0 ≡ 32 → ⊥)
-              (λ y. (text ≡ y .0 .now ++ (32 ∷ y .1 .now)) × ((i : ℕ) → i < length (y .0 .now) → getD (y .0 .now) i 0 ≡ 32 → ⊥)) x is (split-parts 32 text r split (lit< tt)) in
+        (λ y. (text ≡ y .0 .now ++ (32 ∷ y .1 .now)) × ((i : ℕ) → i < length (y .0 .now) → getD (y .0 .now) i 0 ≡ 32 → ⊥)) x is (split-parts 32 text r split (lit< tt)) in
         (x .0 .now, (x .1 .now, (parts .0, m, n)))

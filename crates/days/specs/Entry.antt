@@ -33,3 +33,7 @@ abbrev pub Reads : List ℕ → Result Entry BadLine → Type 0
 Reads line (Ok e) = Says line e
 Reads line (Err NoSuchWord) = Lacks (codes "stock ") line × Lacks (codes "order ") line
 Reads line (Err BadNumber) = ((Lacks (codes "stock ") line × Lacks (codes "order ") line) → ⊥) × ((e : Entry) → Says line e → ⊥)
+
+abbrev pub bad-text : BadLine → List ℕ
+bad-text NoSuchWord = codes "neither 'stock PIECES' nor 'order NUMBER PIECES'"
+bad-text BadNumber = codes "not as many whole numbers below 4294967296 as wanted"

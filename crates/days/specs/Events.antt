@@ -25,8 +25,8 @@ order-of v = record { number = order-number v; quantity = order-quantity v }
 -- an output of dispatch is a picking note; one of intake confirms, but refuses if it has no pieces and some were wanted
 abbrev pub event-of : Order → ℕ → Output → Event
 event-of wanted shelf o =
-  cond (eqb (o .process) 2) (Picked (record { 0 = order-of (o .value) }))
-  (cond (eqb (order-quantity (o .value)) 0 && not (eqb (wanted .quantity) 0)) (Refused (record { order = wanted; shelf = shelf })) (Confirmed (record { 0 = order-of (o .value) })))
+    cond (eqb (o .process) 2) (Picked (record { 0 = order-of (o .value) }))
+    (cond (eqb (order-quantity (o .value)) 0 && not (eqb (wanted .quantity) 0)) (Refused (record { order = wanted; shelf = shelf })) (Confirmed (record { 0 = order-of (o .value) })))
 
 -- by the entry, what came out for it, and what is on the shelf then
 abbrev pub told : Entry → List Output → ℕ → List Event

@@ -75,3 +75,8 @@ Carries e a b (Err Memory) = Unchanged (a .run) (b .run) ⊎ ((ms : List Move) �
 -- what is told is what came out for the entry, and what is on the shelf then
 abbrev pub Told : Entry → Shop → Shop → List Event → Type 0
 Told e a b events = (os : List Output) × ((issued b ≡ issued a ++ os) × (events ≡ told e os (pieces-left b)))
+
+-- playing an entry is carrying it and telling of it; want of memory may come after it was carried
+abbrev pub Plays : Entry → Shop → Shop → Result (Vec Event Global) RunError → Type 0
+Plays e a b (Ok events) = Carries e a b (Ok tt) × Told e a b (vec-items events)
+Plays e a b (Err why) = Carries e a b (Err why) ⊎ ((why ≡ Memory) × Carries e a b (Ok tt))

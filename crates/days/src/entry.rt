@@ -3,8 +3,10 @@ ghost use mathlib.Core.Path.{_≡_};
 ghost use Prim.Native.Nat.{ℕ};
 ghost use Rattle.std.specs.Options.{Cases};
 ghost use Rattle.programs.specs.declared.orders.Order.{Order as Parts};
-ghost use Rattle.days.specs.Entry.{Number, Spells, Reads};
+ghost use Rattle.std.specs.declared.option.Option.the-variants.{Some};
+ghost use Rattle.days.specs.Entry.{Number, Spells, Reads, bad-text};
 use programs::orders::Order;
+use std::fmt;
 
 #[derive(Clone, Copy)]
 pub enum Entry {
@@ -20,6 +22,25 @@ pub enum BadLine {
     NoSuchWord,
     // what follows is not as many numbers as the word wants
     BadNumber,
+}
+
+impl BadLine {
+    pub fn text(&self) -> &'static str
+        ensures { λ r. ⌜ now r ≡ bad-text (now (self .entry)) ⌝ }
+    {
+        match self {
+            BadLine::NoSuchWord => "neither 'stock PIECES' nor 'order NUMBER PIECES'",
+            BadLine::BadNumber => "not as many whole numbers below 4294967296 as wanted",
+        }
+    }
+}
+
+pub impl fmt::Display for BadLine as BadLineDisplay {
+    ghost shown = { λ b. Some (bad-text b) };
+
+    fn fmt<W: fmt::Write>(&self, f: &mut fmt::Formatter<W>) -> fmt::Result {
+        f.write_str(self.text())
+    }
 }
 
 fn read_number(text: &str) -> Option<u32>

@@ -24,7 +24,11 @@ pub impl fmt::Display for Delivery as DeliveryDisplay {
     ghost shown = { λ x. Some (delivery-text x) };
 
     fn fmt<W: fmt::Write>(&self, f: &mut fmt::Formatter<W>) -> fmt::Result {
-        write!(f, "stock: {} pieces delivered, {} on the shelf", self.pieces, self.shelf)
+        write!(
+            f,
+            "stock: {} pieces delivered, {} on the shelf",
+            self.pieces, self.shelf
+        )
     }
 }
 
@@ -36,7 +40,11 @@ pub impl fmt::Display for PickingNote as PickingNoteDisplay {
     ghost shown = { λ x. Some (picking-text x) };
 
     fn fmt<W: fmt::Write>(&self, f: &mut fmt::Formatter<W>) -> fmt::Result {
-        write!(f, "order {}: picking note for {} pieces", self.0.number, self.0.quantity)
+        write!(
+            f,
+            "order {}: picking note for {} pieces",
+            self.0.number, self.0.quantity
+        )
     }
 }
 
@@ -48,7 +56,11 @@ pub impl fmt::Display for Confirmation as ConfirmationDisplay {
     ghost shown = { λ x. Some (confirmation-text x) };
 
     fn fmt<W: fmt::Write>(&self, f: &mut fmt::Formatter<W>) -> fmt::Result {
-        write!(f, "order {}: confirmed with {} pieces", self.0.number, self.0.quantity)
+        write!(
+            f,
+            "order {}: confirmed with {} pieces",
+            self.0.number, self.0.quantity
+        )
     }
 }
 
@@ -66,9 +78,7 @@ pub impl fmt::Display for Shortage as ShortageDisplay {
         write!(
             f,
             "order {}: refused, {} pieces wanted and {} on the shelf",
-            self.order.number,
-            self.order.quantity,
-            self.shelf
+            self.order.number, self.order.quantity, self.shelf
         )
     }
 }
@@ -117,13 +127,21 @@ fn event_of(wanted: Order, shelf: u64, output: Output) -> Event
     if output.process == DISPATCH {
         Event::Picked(PickingNote(order))
     } else if order.quantity == 0 && wanted.quantity != 0 {
-        Event::Refused(Shortage { order: wanted, shelf })
+        Event::Refused(Shortage {
+            order: wanted,
+            shelf,
+        })
     } else {
         Event::Confirmed(Confirmation(order))
     }
 }
 
-fn tell_order(heap: Global, wanted: Order, outputs: &[Output], shelf: u64) -> Result<Vec<Event>, AllocError>
+fn tell_order(
+    heap: Global,
+    wanted: Order,
+    outputs: &[Output],
+    shelf: u64,
+) -> Result<Vec<Event>, AllocError>
     ensures { λ r. ⌜ made r (λ v. vec-items v ≡ told (Placed wanted) (now (outputs .entry)) shelf) ⌝ }
 {
     let mut events = Vec::new(heap);
@@ -135,7 +153,12 @@ fn tell_order(heap: Global, wanted: Order, outputs: &[Output], shelf: u64) -> Re
 }
 
 // What is told of an entry, by what came out for it and what is on the shelf then.
-pub fn tell(heap: Global, entry: Entry, outputs: &[Output], shelf: u64) -> Result<Vec<Event>, AllocError>
+pub fn tell(
+    heap: Global,
+    entry: Entry,
+    outputs: &[Output],
+    shelf: u64,
+) -> Result<Vec<Event>, AllocError>
     ensures { λ r. ⌜ made r (λ v. vec-items v ≡ told entry (now (outputs .entry)) shelf) ⌝ }
 {
     match entry {

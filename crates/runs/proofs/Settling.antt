@@ -32,8 +32,10 @@ delivered-more M q p v ms a b c before move = record {
   moves = goes-on (before .moves) (moved q p v)
       (subst (λ x. Makes (M x) (count a) (moved q p v) (configuration b) (configuration c)) (before .program)
       (subst (λ n. Makes (M (b .program)) n (moved q p v) (configuration b) (configuration c)) (before .processes) (move .move)));
-  grown = (before .grown .0 ++ move .grown .0,
-      move .grown .1 ∙ ap (λ os. os ++ move .grown .0) (before .grown .1) ∙ append-assoc (vec-items (a .outputs)) (before .grown .0) (move .grown .0));
+  grown = (
+    before .grown .0 ++ move .grown .0,
+    move .grown .1 ∙ ap (λ os. os ++ move .grown .0) (before .grown .1) ∙ append-assoc (vec-items (a .outputs)) (before .grown .0) (move .grown .0),
+  );
 }
 
 delivered-same : {P : Type 0} (M : Meaning) (ms : List Move) (a b c : Runner P) → Delivered M ms a b → Unchanged b c → Delivered M ms a c

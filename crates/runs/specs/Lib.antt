@@ -2,3 +2,4 @@ pub mod Run
 pub mod Held
 pub mod Answers
 pub mod Inside
+pub mod Texts

@@ -5,9 +5,13 @@ ghost use lib.ListN.{getD};
 ghost use Rattle.runs.specs.declared.runner.Message.{Message as Sent};
 ghost use Rattle.runs.specs.declared.runner.RunError.the-variants.{Memory};
 ghost use mathlib.Core.Path.{_≡_};
+ghost use Rattle.std.specs.declared.option.Option.the-variants.{Some};
+ghost use Rattle.runs.specs.Texts.{error-text};
 use programs::values::State;
 use std::alloc::AllocError;
 use std::alloc::Refused;
+use std::error::Error;
+use std::fmt;
 
 mod making;
 mod reading;
@@ -69,3 +73,27 @@ pub impl<T: Drop> From<Refused<T>> for RunError as RunErrorFromRefused {
         RunError::Memory
     }
 }
+
+impl RunError {
+    pub fn text(&self) -> &'static str
+        ensures { λ r. ⌜ now r ≡ error-text (now (self .entry)) ⌝ }
+    {
+        match self {
+            RunError::ProcessCount => "a run has 1 to 8 processes",
+            RunError::NoSuchProcess => "there is no such process",
+            RunError::NothingWaiting => "no message waits there",
+            RunError::Unsettled => "messages still wait",
+            RunError::Memory => "out of memory",
+        }
+    }
+}
+
+pub impl fmt::Display for RunError as RunErrorDisplay {
+    ghost shown = { λ e. Some (error-text e) };
+
+    fn fmt<W: fmt::Write>(&self, f: &mut fmt::Formatter<W>) -> fmt::Result {
+        f.write_str(self.text())
+    }
+}
+
+pub impl Error for RunError as RunErrorError {}

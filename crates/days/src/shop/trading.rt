@@ -1,9 +1,6 @@
 // Opening a shop, and what it does with an entry.
 ghost use mathlib.Core.Path.{_≡_};
-ghost use Rattle.std.specs.Of.Vec.{vec-items};
-ghost use Rattle.std.specs.Vec.{made};
-ghost use Rattle.std.specs.declared.result.Result.the-variants.{Ok};
-ghost use Rattle.days.specs.Shop.{Opens, Puts, Carries, Told, pieces-left};
+ghost use Rattle.days.specs.Shop.{Opens, Puts, Carries, Plays, pieces-left};
 use crate::entry::Entry;
 use crate::event::Event;
 use crate::event::tell;
@@ -22,7 +19,9 @@ impl Shop {
     pub fn open(heap: Global) -> Result<Shop, RunError>
         ensures { λ r. ⌜ Opens r ⌝ }
     {
-        Ok(Shop { run: Runner::new(heap, Orders, 3)? })
+        Ok(Shop {
+            run: Runner::new(heap, Orders, 3)?,
+        })
     }
 
     // The pieces on the shelf.
@@ -54,8 +53,7 @@ impl Shop {
 
     // Carries the entry, and tells what was done.
     pub fn play(&mut self, heap: Global, entry: Entry) -> Result<Vec<Event>, RunError>
-        ensures carried { λ r. ⌜ made r (λ _. Carries entry (now (self .entry)) (now (self .exit)) (Ok tt)) ⌝ }
-        ensures told { λ r. ⌜ made r (λ v. Told entry (now (self .entry)) (now (self .exit)) (vec-items v)) ⌝ }
+        ensures { λ r. ⌜ Plays entry (now (self .entry)) (now (self .exit)) r ⌝ }
     {
         let before = self.run.outputs().len();
         self.carry(entry)?;

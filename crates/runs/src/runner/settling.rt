@@ -15,6 +15,10 @@ impl<P: Program> Runner<P> {
             };
             self.move_first(oldest.source, oldest.target)?;
         }
-        if self.waiting.is_empty() { Ok(()) } else { Err(RunError::Unsettled) }
+        if self.waiting.is_empty() {
+            Ok(())
+        } else {
+            Err(RunError::Unsettled)
+        }
     }
 }
