@@ -46,10 +46,23 @@ fn bad_lines_are_refused() -> Result<(), Fail> {
     for line in ["", "stock", "stocks 1", " stock 1", "Order 1 1", "sell 1"] {
         check(read_entry(line).err().is_some())?;
     }
-    for line in ["stock ", "stock x", "stock 4294967296", "stock -1", "stock 1 2", "order 1", "order 1 ", "order  1 1", "order 1 1 1"] {
+    for line in [
+        "stock ",
+        "stock x",
+        "stock 4294967296",
+        "stock -1",
+        "stock 1 2",
+        "order 1",
+        "order 1 ",
+        "order  1 1",
+        "order 1 1 1",
+    ] {
         match read_entry(line) {
             Ok(_) => return Err(Fail::new(line)),
-            Err(bad) => check_eq(bad.text(), "not as many whole numbers below 4294967296 as wanted")?,
+            Err(bad) => check_eq(
+                bad.text(),
+                "not as many whole numbers below 4294967296 as wanted",
+            )?,
         }
     }
     Ok(())

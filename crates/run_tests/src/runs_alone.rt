@@ -30,17 +30,60 @@ fn one_order(rt: LibcRuntime) -> Result<(), Fail> {
     let value = order(1, 3);
     run.take(1, 10)?;
     run.take(0, value)?;
-    check_eq(run.waiting(), &[Message { source: 0, target: 1, value }][..])?;
+    check_eq(
+        run.waiting(),
+        &[Message {
+            source: 0,
+            target: 1,
+            value,
+        }][..],
+    )?;
     check_eq(run.move_first(0, 1)?, value)?;
-    check_eq(run.state(1), Some(State { a: 7, ..State::ZERO }))?;
-    let picking = Message { source: 1, target: 2, value };
-    check_eq(run.waiting(), &[picking, Message { source: 1, target: 0, value }][..])?;
+    check_eq(
+        run.state(1),
+        Some(State {
+            a: 7,
+            ..State::ZERO
+        }),
+    )?;
+    let picking = Message {
+        source: 1,
+        target: 2,
+        value,
+    };
+    check_eq(
+        run.waiting(),
+        &[
+            picking,
+            Message {
+                source: 1,
+                target: 0,
+                value,
+            },
+        ][..],
+    )?;
     run.move_first(1, 0)?;
     run.move_first(1, 2)?;
     check(run.waiting().is_empty())?;
-    check_eq(run.outputs(), &[Output { process: 0, value }, Output { process: 2, value }][..])?;
-    check_eq(run.state(0), Some(State { a: 1, b: 3, ..State::ZERO }))?;
-    check_eq(run.state(2), Some(State { a: 1, ..State::ZERO }))
+    check_eq(
+        run.outputs(),
+        &[Output { process: 0, value }, Output { process: 2, value }][..],
+    )?;
+    check_eq(
+        run.state(0),
+        Some(State {
+            a: 1,
+            b: 3,
+            ..State::ZERO
+        }),
+    )?;
+    check_eq(
+        run.state(2),
+        Some(State {
+            a: 1,
+            ..State::ZERO
+        }),
+    )
 }
 
 // A message is moved in the order in which it was sent.
@@ -62,8 +105,21 @@ fn relay_goes_round(rt: LibcRuntime) -> Result<(), Fail> {
     check_eq(run.settle(4), Err(RunError::Unsettled))?;
     check(run.outputs().is_empty())?;
     run.settle(1)?;
-    check_eq(run.outputs(), &[Output { process: 2, value: 0 }][..])?;
-    check_eq(run.state(2), Some(State { a: 2, b: 6, ..State::ZERO }))
+    check_eq(
+        run.outputs(),
+        &[Output {
+            process: 2,
+            value: 0,
+        }][..],
+    )?;
+    check_eq(
+        run.state(2),
+        Some(State {
+            a: 2,
+            b: 6,
+            ..State::ZERO
+        }),
+    )
 }
 
 // With one process or two, sends to the others vanish.
@@ -72,19 +128,35 @@ fn sends_to_absent_processes_vanish(rt: LibcRuntime) -> Result<(), Fail> {
     let mut one = Runner::new(rt.alloc(), Orders, 1)?;
     one.take(0, order(1, 1))?;
     check(one.waiting().is_empty())?;
-    check_eq(one.state(0), Some(State { a: 1, ..State::ZERO }))?;
+    check_eq(
+        one.state(0),
+        Some(State {
+            a: 1,
+            ..State::ZERO
+        }),
+    )?;
     check_eq(one.state(1), None)?;
     let mut two = Runner::new(rt.alloc(), Orders, 2)?;
     two.take(1, 2)?;
     two.take(0, order(1, 2))?;
     two.move_first(0, 1)?;
-    check_eq(two.waiting(), &[Message { source: 1, target: 0, value: order(1, 2) }][..])
+    check_eq(
+        two.waiting(),
+        &[Message {
+            source: 1,
+            target: 0,
+            value: order(1, 2),
+        }][..],
+    )
 }
 
 #[test]
 fn what_is_not_there_is_refused(rt: LibcRuntime) -> Result<(), Fail> {
     for count in [0u8, 9, 255] {
-        check_eq(Runner::new(rt.alloc(), Orders, count).err(), Some(RunError::ProcessCount))?;
+        check_eq(
+            Runner::new(rt.alloc(), Orders, count).err(),
+            Some(RunError::ProcessCount),
+        )?;
     }
     let mut run = Runner::new(rt.alloc(), Orders, 3)?;
     run.take(0, order(1, 1))?;

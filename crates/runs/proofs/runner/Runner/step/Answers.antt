@@ -14,7 +14,7 @@ ghost-self g c =
     let sends = listed (c .within .result) in
     let old = c .args .self .now .waiting in
     let all = c .post .last .waiting in
-    let reached : sends ≡ reaching n (listed (c .step-sends .result .1)) = rw (sym (c .count-count .ensures)) (c .within .ensures) in (
+    let reached : sends ≡ reaching n (listed (c .step-sends .result .1)) = rw (sym (c .count-count .ensures)) (c .within .ensures .list) in (
       search needs,
       (
         pushed-below (λ m. m .source) n (vec-items old) (map (message p) sends) (vec-items all) (vec-len old) (vec-len all) (old .ok .0) (all .ok .0) (c .post .ensures)
