@@ -1,1 +1,3 @@
 pub mod Greatest
+pub mod Indexes
+pub mod Cut
