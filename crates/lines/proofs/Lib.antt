@@ -1,3 +1,5 @@
 pub mod Greatest
 pub mod Indexes
 pub mod Cut
+pub mod Taken
+pub mod Played

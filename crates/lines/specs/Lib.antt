@@ -1,3 +1,4 @@
 pub mod Intervals
 pub mod Lines
 pub mod Built
+pub mod Played
