@@ -33,7 +33,7 @@ first-part k (suc n) (x ∷ xs) ys m ms e late early = first-part k n xs ys m ms
 
 module _ (N : ℕ) (L : Line) {F G : Family} {p : ℕ} {x : Interval} (grows : Grows F p x G) where
   -- a line that is consistent in the larger family is so in the smaller
-  smaller : Consistent N G L → Consistent N F L
+  pub smaller : Consistent N G L → Consistent N F L
   smaller consistent r h = go (cases-eq r p)
     where
       go : (r ≡ p) ⊎ (r ≡ p → ⊥) → All (Backed N L) (take (L r) (F r))
@@ -51,7 +51,7 @@ module _ (N : ℕ) (L : Line) {F G : Family} {p : ℕ} {x : Interval} (grows : G
                 (all-take (Backed N L) (length (F p)) (F p ++ (x ∷ [])) (subst (All (Backed N L)) whole here))
 
   -- below the new interval the two are cut alike
-  cut-before : L p ≤ length (F p) → (r : ℕ) → cut G L r ≡ cut F L r
+  pub cut-before : L p ≤ length (F p) → (r : ℕ) → cut G L r ≡ cut F L r
   cut-before l r = go (cases-eq r p)
     where
       go : (r ≡ p) ⊎ (r ≡ p → ⊥) → take (L r) (G r) ≡ take (L r) (F r)
@@ -59,7 +59,7 @@ module _ (N : ℕ) (L : Line) {F G : Family} {p : ℕ} {x : Interval} (grows : G
       go (inl e) = subst (λ k. take (L k) (G k) ≡ take (L k) (F k)) (sym e) (ap (take (L p)) (grows .here) ∙ take-append-le (L p) (F p) (x ∷ []) l)
 
   -- at or above it the cut family grows by it too
-  cut-row : length (F p) < L p → cut F L p ≡ F p
+  pub cut-row : length (F p) < L p → cut F L p ≡ F p
   cut-row l = take-all (L p) (F p) (omega arith)
 
   cut-grows : length (F p) < L p → Grows (cut F L) p x (cut G L)
@@ -69,7 +69,7 @@ module _ (N : ℕ) (L : Line) {F G : Family} {p : ℕ} {x : Interval} (grows : G
   }
 
   -- the new interval is backed by the line
-  last-backed : Consistent N G L → p < N → length (F p) < L p → Backed N L x
+  pub last-backed : Consistent N G L → p < N → length (F p) < L p → Backed N L x
   last-backed consistent exists l =
       all-last (F p) (subst (All (Backed N L)) (take-all (L p) (F p ++ (x ∷ [])) (simp length-push (omega arith))) (subst (λ xs. All (Backed N L) (take (L p) xs)) (grows .here) (consistent p exists)))
     where

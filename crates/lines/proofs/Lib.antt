@@ -3,3 +3,4 @@ pub mod Indexes
 pub mod Cut
 pub mod Taken
 pub mod Played
+pub mod Vectors

@@ -2,3 +2,4 @@ pub mod Intervals
 pub mod Lines
 pub mod Built
 pub mod Played
+pub mod Vectors
