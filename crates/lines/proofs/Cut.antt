@@ -11,7 +11,7 @@ use Rattle.std.proofs.shelf.Lists.{take-append-le, take-all, take-take, take-ap
 use Rattle.std.proofs.shelf.Tests.{cases-eq, cases-lt}
 use Rattle.programs.specs.Program.{Meaning}
 use Rattle.records.specs.declared.Interval.{Interval}
-use Rattle.lines.specs.Built.{Given, Grows, Built, begins, input, delivery, cut}
+use Rattle.lines.specs.Built.{Given, Gives, Grows, Built, begins, input, delivery, cut}
 use Rattle.lines.specs.Intervals.{Family, Message, channel, taken, waiting, next-input, vector-after, merged, begun, by-input, by-delivery}
 use Rattle.lines.specs.Lines.{Line, Backed, Consistent}
 use Rattle.lines.proofs.Indexes.{From, from-drop, sent-late, channel-append, indexed}
@@ -42,13 +42,14 @@ module _ (N : ℕ) (L : Line) {F G : Family} {p : ℕ} {x : Interval} (grows : G
         where
           here : All (Backed N L) (take (L p) (F p ++ (x ∷ [])))
           here = subst (λ xs. All (Backed N L) (take (L p) xs)) (grows .here) (subst (λ k. All (Backed N L) (take (L k) (G k))) e (consistent r h))
+
           short : (length (F p) < L p) ⊎ (L p ≤ length (F p)) → All (Backed N L) (take (L p) (F p))
           short (inr l) = subst (All (Backed N L)) (take-append-le (L p) (F p) (x ∷ []) l) here
           short (inl l) =
               let whole : take (L p) (F p ++ (x ∷ [])) ≡ F p ++ (x ∷ []) = take-all (L p) (F p ++ (x ∷ [])) (simp length-push (omega arith)) in
               let front : take (length (F p)) (F p ++ (x ∷ [])) ≡ F p = take-append-le (length (F p)) (F p) (x ∷ []) (omega arith) ∙ take-all (length (F p)) (F p) (omega arith) in
               subst (All (Backed N L)) (front ∙ sym (take-all (L p) (F p) (omega arith)))
-                (all-take (Backed N L) (length (F p)) (F p ++ (x ∷ [])) (subst (All (Backed N L)) whole here))
+              (all-take (Backed N L) (length (F p)) (F p ++ (x ∷ [])) (subst (All (Backed N L)) whole here))
 
   -- below the new interval the two are cut alike
   pub cut-before : L p ≤ length (F p) → (r : ℕ) → cut G L r ≡ cut F L r
@@ -106,7 +107,7 @@ built-cut {M} {N} {given} (input {F} {G} p v built exists g grows) L consistent 
     go before (inr l) = built-same before (cut-before N L grows l)
     go before (inl l) =
         let whole : cut F L p ≡ F p = cut-row N L grows l in
-        input p v before exists (subst (λ xs. given p (next-input xs) v) (sym whole) g) (subst (λ xs. Grows (cut F L) p (by-input M N p xs v) (cut G L)) (sym whole) (cut-grows N L grows l))
+        input p v before exists (subst (λ xs. Gives given p (next-input xs) v) (sym whole) g) (subst (λ xs. Grows (cut F L) p (by-input M N p xs v) (cut G L)) (sym whole) (cut-grows N L grows l))
 built-cut {M} {N} {given} (delivery {F} {G} q p m ms built sender exists first grows) L consistent = go (built-cut built L (smaller N L grows consistent)) (cases-lt (length (F p)) (L p))
   where
     go : Built M N given (cut F L) → (length (F p) < L p) ⊎ (L p ≤ length (F p)) → Built M N given (cut G L)

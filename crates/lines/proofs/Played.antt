@@ -19,7 +19,7 @@ use Rattle.programs.specs.declared.values.Sends.{Sends}
 use Rattle.programs.specs.declared.values.Sends.the-variants.{Nothing, One, Two}
 use Rattle.records.specs.declared.Interval.{Interval}
 use Rattle.runs.specs.Run.{Configuration, Fresh, Steps, Leaves, Move, took, moved, Makes, Leads, stays, goes-on, Run, sent-to}
-use Rattle.lines.specs.Built.{Given, Grows, Built, begins, input, delivery}
+use Rattle.lines.specs.Built.{Given, Gives, Grows, Built, begins, input, delivery}
 use Rattle.lines.specs.Intervals.{Family, Message, play, sent-in, channel, taken, waiting, next-input, outputs, by-input, by-delivery}
 use Rattle.lines.specs.Played.{stand, step-at, input-at, steps-at, inputs-at, Fits, Recorded}
 use Rattle.lines.proofs.Taken.{joined-push, taken-same, taken-more, taken-push, channel-more, outputs-more, idle, some-left, drop-next, Sent, sent}
@@ -69,7 +69,7 @@ module _ (M : Meaning) (N : ℕ) {F G : Family} {p : ℕ} {x : Interval} (grows 
         ∙ map-append (λ (m : Message). m .value) (drop (taken p (G r)) (channel r (F p))) (sent-in r x)
         ∙ ap (λ vs. vs ++ map (λ (m : Message). m .value) (sent-in r x)) (sym (waits p r))
         ∙ ap (λ vs. c .waiting p r ++ vs) (sends-of N r (M .step p (play M p (F p)) (x .source) (x .value) .1) x sends
-            ∙ ap (λ s. sent-to r (reaching N (listed (M .step p s (x .source) (x .value) .1)))) (sym (states p)));
+        ∙ ap (λ s. sent-to r (reaching N (listed (M .step p s (x .source) (x .value) .1)))) (sym (states p)));
     channels = λ q r n. ap (λ xs. map (λ (m : Message). m .value) (drop (taken q (G r)) (channel r xs))) (grows .others q n) ∙ sym (waits q r);
     output = outputs-more grows ∙ ap (λ vs. vs ++ listOf (x .output)) (sym (outs p)) ∙ ap (λ o. c .outputs p ++ listOf o) (output ∙ ap (λ s. M .step p s (x .source) (x .value) .2) (sym (states p)));
     silent = λ r n. ap outputs (grows .others r n) ∙ sym (outs r);
@@ -99,7 +99,7 @@ leaves : (M : Meaning) {F G : Family} {p : ℕ} {x : Interval} → Grows F p x G
 leaves M {F} {G} {p} {x} grows m ms value first = record {
   first = ap (map (λ m. m .value)) first ∙ ap (λ v. v ∷ map (λ (y : Message). y .value) ms) (sym value)
       ∙ ap (λ ys. x .value ∷ map (λ (y : Message). y .value) ys)
-        (sym (ap (λ n. drop n (channel p (F (x .source)))) (taken-more grows) ∙ drop-next (taken (x .source) (F p)) (channel p (F (x .source))) m ms first));
+      (sym (ap (λ n. drop n (channel p (F (x .source)))) (taken-more grows) ∙ drop-next (taken (x .source) (F p)) (channel p (F (x .source))) m ms first));
   channels = λ r s other. ap (λ n. map (λ (y : Message). y .value) (drop n (channel s (F r)))) (taken-same grows r s other);
   states = λ r. refl;
   silent = λ r. refl;
@@ -121,18 +121,18 @@ module _ {F G : Family} {p : ℕ} {x : Interval} (grows : Grows F p x G) (ms : L
       go (inr n) = ap (λ ys. map (λ (y : Interval). (y .source, y .value)) (F r) ++ ys) (others r n) ∙ append-nil _ ∙ ap (map (λ (y : Interval). (y .source, y .value))) (sym (grows .others r n))
 
 -- one input more fits if it was given under the next number
-fits-more : (given : Given) (ms : List Move) (p v : ℕ) → Fits given ms → given p (length (inputs-at p ms) + 1) v → Fits given (ms ++ (took p v ∷ []))
-fits-more given ms p v before here r = subst (λ vs. (k : ℕ) → k < length vs → given r (k + 1) (getD vs k 0)) (sym (joined-push (input-at r) ms (took p v))) (go (cases-eq r p))
+fits-more : (given : Given) (ms : List Move) (p v : ℕ) → Fits given ms → Gives given p (length (inputs-at p ms) + 1) v → Fits given (ms ++ (took p v ∷ []))
+fits-more given ms p v before here r = subst (λ vs. (k : ℕ) → k < length vs → Gives given r (k + 1) (getD vs k 0)) (sym (joined-push (input-at r) ms (took p v))) (go (cases-eq r p))
   where
-    go : (r ≡ p) ⊎ (r ≡ p → ⊥) → (k : ℕ) → k < length (inputs-at r ms ++ input-at r (took p v)) → given r (k + 1) (getD (inputs-at r ms ++ input-at r (took p v)) k 0)
-    go (inr n) = subst (λ vs. (k : ℕ) → k < length vs → given r (k + 1) (getD vs k 0)) (sym (ap (λ vs. inputs-at r ms ++ vs) (cond-false (eqb p r) (v ∷ []) [] (ne-eqb p r (λ e. n (sym e)))) ∙ append-nil (inputs-at r ms))) (before r)
-    go (inl e) = subst (λ vs. (k : ℕ) → k < length vs → given r (k + 1) (getD vs k 0)) (sym (ap (λ vs. inputs-at r ms ++ vs) (cond-true (eqb p r) (v ∷ []) [] (eq-eqb p r (sym e))))) (λ k h. last k h (cases-lt k (length (inputs-at r ms))))
+    go : (r ≡ p) ⊎ (r ≡ p → ⊥) → (k : ℕ) → k < length (inputs-at r ms ++ input-at r (took p v)) → Gives given r (k + 1) (getD (inputs-at r ms ++ input-at r (took p v)) k 0)
+    go (inr n) = subst (λ vs. (k : ℕ) → k < length vs → Gives given r (k + 1) (getD vs k 0)) (sym (ap (λ vs. inputs-at r ms ++ vs) (cond-false (eqb p r) (v ∷ []) [] (ne-eqb p r (λ e. n (sym e)))) ∙ append-nil (inputs-at r ms))) (before r)
+    go (inl e) = subst (λ vs. (k : ℕ) → k < length vs → Gives given r (k + 1) (getD vs k 0)) (sym (ap (λ vs. inputs-at r ms ++ vs) (cond-true (eqb p r) (v ∷ []) [] (eq-eqb p r (sym e))))) (λ k h. last k h (cases-lt k (length (inputs-at r ms))))
       where
-        last : (k : ℕ) → k < length (inputs-at r ms ++ (v ∷ [])) → (k < length (inputs-at r ms)) ⊎ (length (inputs-at r ms) ≤ k) → given r (k + 1) (getD (inputs-at r ms ++ (v ∷ [])) k 0)
-        last k h (inl l) = subst (given r (k + 1)) (sym (getD-append-left (inputs-at r ms) (v ∷ []) 0 k l)) (before r k l)
+        last : (k : ℕ) → k < length (inputs-at r ms ++ (v ∷ [])) → (k < length (inputs-at r ms)) ⊎ (length (inputs-at r ms) ≤ k) → Gives given r (k + 1) (getD (inputs-at r ms ++ (v ∷ [])) k 0)
+        last k h (inl l) = subst (Gives given r (k + 1)) (sym (getD-append-left (inputs-at r ms) (v ∷ []) 0 k l)) (before r k l)
         last k h (inr l) =
             let at : length (inputs-at r ms) ≡ k = omega (arith, length-push (inputs-at r ms) v) in
-            subst (given r (k + 1)) (sym (getD-push (inputs-at r ms) v 0 k at)) (subst (λ n. given r (n + 1) v) at (subst (λ s. given s (length (inputs-at s ms) + 1) v) (sym e) here))
+            subst (Gives given r (k + 1)) (sym (getD-push (inputs-at r ms) v 0 k at)) (subst (λ n. Gives given r (n + 1) v) at (subst (λ s. Gives given s (length (inputs-at s ms) + 1) v) (sym e) here))
 
 no-inputs : (ms : List Move) (q p v r : ℕ) → inputs-at r (ms ++ (moved q p v ∷ [])) ≡ inputs-at r ms
 no-inputs ms q p v r = joined-push (input-at r) ms (moved q p v) ∙ append-nil (inputs-at r ms)
@@ -149,11 +149,17 @@ numbered-more {F} {G} {p} {x} grows outside ms v before r = ap length (joined-pu
 started : (M : Meaning) (N : ℕ) (given : Given) (F : Family) → ((p : ℕ) → F p ≡ []) → Story M N given F []
 started M N given F none = record {
   recorded = record {
-    run = (stand M F, (record {
-      states = λ p h. ap (play M p) (none p);
-      channels = λ q p. ap (map (λ m. m .value)) (nothing-sent (taken q (F p)) p (F q) (none q));
-      silent = λ p. ap outputs (none p);
-    }, stays));
+    run = (
+      stand M F,
+      (
+        record {
+          states = λ p h. ap (play M p) (none p);
+          channels = λ q p. ap (map (λ m. m .value)) (nothing-sent (taken q (F p)) p (F q) (none q));
+          silent = λ p. ap outputs (none p);
+        },
+        stays,
+      ),
+    );
     steps = λ p. ap (map (λ (x : Interval). (x .source, x .value))) (sym (none p));
     fits = λ p k h. absurd (omega arith);
   };
@@ -166,30 +172,53 @@ story {M} {N} {given} few (input {F} {G} p v built exists g grows) = go (story f
   where
     x : Interval
     x = by-input M N p (F p) v
+
     go : (moves : List Move) × Story M N given F moves → (moves : List Move) × Story M N given G moves
-    go (ms, told) = (ms ++ (took p v ∷ []), record {
-      recorded = record {
-        run = (told .recorded .run .0, (told .recorded .run .1 .0, goes-on (told .recorded .run .1 .1) (took p v)
-          (stepped M N grows exists (stand M F) (λ r. refl) (λ a b. ap (map (λ m. m .value)) (input-waits built few grows refl a b)) (λ r. refl)
-            (λ r. omega (arith, taken-same grows p r (λ e. omega arith), sent built few p r exists)) refl refl)));
-        steps = steps-more grows ms (took p v) (told .recorded .steps) (cond-true (eqb p p) ((8, v) ∷ []) [] (eq-eqb p p refl)) (λ r n. cond-false (eqb p r) ((8, v) ∷ []) [] (ne-eqb p r (λ e. n (sym e))));
-        fits = fits-more given ms p v (told .recorded .fits) (subst (λ n. given p (n + 1) v) (sym (told .numbered p)) g);
-      };
-      numbered = numbered-more grows refl ms v (told .numbered);
-    })
+    go (ms, told) = (
+      ms ++ (took p v ∷ []),
+      record {
+        recorded = record {
+          run = (
+            told .recorded .run .0,
+            (
+              told .recorded .run .1 .0,
+              goes-on (told .recorded .run .1 .1) (took p v)
+                  (stepped M N grows exists (stand M F) (λ r. refl) (λ a b. ap (map (λ m. m .value)) (input-waits built few grows refl a b)) (λ r. refl)
+                  (λ r. omega (arith, taken-same grows p r (λ e. omega arith), sent built few p r exists)) refl refl),
+            ),
+          );
+          steps = steps-more grows ms (took p v) (told .recorded .steps) (cond-true (eqb p p) ((8, v) ∷ []) [] (eq-eqb p p refl)) (λ r n. cond-false (eqb p r) ((8, v) ∷ []) [] (ne-eqb p r (λ e. n (sym e))));
+          fits = fits-more given ms p v (told .recorded .fits) (subst (λ n. Gives given p (n + 1) v) (sym (told .numbered p)) g);
+        };
+        numbered = numbered-more grows refl ms v (told .numbered);
+      },
+    )
 story {M} {N} {given} few (delivery {F} {G} q p m rest built sender exists first grows) = go (story few built)
   where
     go : (moves : List Move) × Story M N given F moves → (moves : List Move) × Story M N given G moves
-    go (ms, told) = (ms ++ (moved q p (m .value) ∷ []), record {
-      recorded = record {
-        run = (told .recorded .run .0, (told .recorded .run .1 .0, goes-on (told .recorded .run .1 .1) (moved q p (m .value))
-          (between M F G, (leaves M grows m rest refl first,
-            stepped M N grows exists (between M F G) (λ r. refl) (λ a b. refl) (λ r. refl) enough refl refl))));
-        steps = steps-more grows ms (moved q p (m .value)) (told .recorded .steps) (cond-true (eqb p p) ((q, m .value) ∷ []) [] (eq-eqb p p refl)) (λ r n. cond-false (eqb p r) ((q, m .value) ∷ []) [] (ne-eqb p r (λ e. n (sym e))));
-        fits = λ r. subst (λ vs. (k : ℕ) → k < length vs → given r (k + 1) (getD vs k 0)) (sym (no-inputs ms q p (m .value) r)) (told .recorded .fits r);
-      };
-      numbered = λ r. ap length (no-inputs ms q p (m .value) r) ∙ told .numbered r ∙ sym (taken-same grows 8 r (λ e. omega arith));
-    })
+    go (ms, told) = (
+      ms ++ (moved q p (m .value) ∷ []),
+      record {
+        recorded = record {
+          run = (
+            told .recorded .run .0,
+            (
+              told .recorded .run .1 .0,
+              goes-on (told .recorded .run .1 .1) (moved q p (m .value)) (
+                between M F G,
+                (
+                  leaves M grows m rest refl first,
+                  stepped M N grows exists (between M F G) (λ r. refl) (λ a b. refl) (λ r. refl) enough refl refl,
+                ),
+              ),
+            ),
+          );
+          steps = steps-more grows ms (moved q p (m .value)) (told .recorded .steps) (cond-true (eqb p p) ((q, m .value) ∷ []) [] (eq-eqb p p refl)) (λ r n. cond-false (eqb p r) ((q, m .value) ∷ []) [] (ne-eqb p r (λ e. n (sym e))));
+          fits = λ r. subst (λ vs. (k : ℕ) → k < length vs → Gives given r (k + 1) (getD vs k 0)) (sym (no-inputs ms q p (m .value) r)) (told .recorded .fits r);
+        };
+        numbered = λ r. ap length (no-inputs ms q p (m .value) r) ∙ told .numbered r ∙ sym (taken-same grows 8 r (λ e. omega arith));
+      },
+    )
       where
         enough : (r : ℕ) → taken p (G r) ≤ length (channel r (F p))
         enough r = cases (cases-eq p q) (cases-eq r p)

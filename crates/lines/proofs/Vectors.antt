@@ -94,6 +94,7 @@ vectored-push p xs x base h v e long above heard = record {
   where
     here : entry (x .vector) p ≡ length xs + 1
     here = ap (λ w. entry w p) e ∙ getD-set-same base p (length xs + 1) 0 (omega arith)
+
     go : (r : ℕ) → r < 8 → (r ≡ p) ⊎ (r ≡ p → ⊥) → entry (vector-after xs) r ≤ entry (x .vector) r
     go r k (inl f) = subst (λ i. entry (vector-after xs) i ≤ entry (x .vector) i) (sym f) (omega (arith, here, own-last p xs h v))
     go r k (inr n) = omega (arith, ap (λ w. entry w r) e, getD-set-other base p r (length xs + 1) 0 n, above r k)
@@ -115,13 +116,18 @@ vectored {M} {N} (delivery {F} q p m ms built sender exists first grows) few =
       where
         early : m .sent-at ≤ length (F q)
         early = let some : All (λ (y : Message). y .sent-at ≤ 0 + length (F q)) (m ∷ ms) = subst (All (λ y. y .sent-at ≤ 0 + length (F q))) first all in omega (arith, some .0)
+
         go : (q ≡ p) ⊎ (q ≡ p → ⊥) → m .sent-at ≤ entry (set (merged (vector-after (F p)) (vector-after (take (m .sent-at) (F q)))) p (length (F p) + 1)) q
         go (inl e) =
             let rows : length (F q) ≡ length (F p) = ap (λ k. length (F k)) e in
             let here = getD-set-same (merged (vector-after (F p)) (vector-after (take (m .sent-at) (F q)))) p (length (F p) + 1) 0 (omega (arith, length-merged (vector-after (F p)) (vector-after (take (m .sent-at) (F q))))) in
             subst (λ k. m .sent-at ≤ entry (set (merged (vector-after (F p)) (vector-after (take (m .sent-at) (F q)))) p (length (F p) + 1)) k) (sym e) (omega (arith, early))
-        go (inr n) = omega (arith, getD-set-other (merged (vector-after (F p)) (vector-after (take (m .sent-at) (F q)))) p q (length (F p) + 1) 0 n,
-            merged-entry (vector-after (F p)) (vector-after (take (m .sent-at) (F q))) q (omega arith), own-take no-vector q 0 (m .sent-at) (F q) (no-entry q (omega arith)) (other .own) early)
+        go (inr n) = omega (
+          arith,
+          getD-set-other (merged (vector-after (F p)) (vector-after (take (m .sent-at) (F q)))) p q (length (F p) + 1) 0 n,
+          merged-entry (vector-after (F p)) (vector-after (take (m .sent-at) (F q))) q (omega arith),
+          own-take no-vector q 0 (m .sent-at) (F q) (no-entry q (omega arith)) (other .own) early,
+        )
 
 -- a consistent line covers its vectors
 module _ {N : ℕ} (few : N ≤ 8) (L : Line) where
@@ -153,14 +159,17 @@ module _ {N : ℕ} (few : N ≤ 8) (L : Line) where
   covers (input {F} p v built exists g grows) consistent =
       let before = covers built (smaller N L grows consistent) in
       covered-more grows before (λ l. raised p (length (F p)) (vector-after (F p)) (vectored built few p .long) exists (omega arith)
-        (λ r k n. subst (λ ys. entry (vector-after ys) r ≤ L r) (cut-row N L grows l) (before p r exists k)))
+      (λ r k n. subst (λ ys. entry (vector-after ys) r ≤ L r) (cut-row N L grows l) (before p r exists k)))
   covers (delivery {F} q p m ms built sender exists first grows) consistent =
       let before = covers built (smaller N L grows consistent) in
       covered-more grows before (λ l. raised p (length (F p)) (merged (vector-after (F p)) (vector-after (take (m .sent-at) (F q)))) (length-merged (vector-after (F p)) (vector-after (take (m .sent-at) (F q)))) exists (omega arith)
-        (λ r k n. omega (arith, merged-entry (vector-after (F p)) (vector-after (take (m .sent-at) (F q))) r (omega arith),
-          subst (λ ys. entry (vector-after ys) r ≤ L r) (cut-row N L grows l) (before p r exists k),
-          rises-take no-vector (m .sent-at) (L q) (F q) (vectored built few q .rises) (last-backed N L grows consistent exists l sender) r (omega arith),
-          before q r sender k)))
+      (λ r k n. omega (
+        arith,
+        merged-entry (vector-after (F p)) (vector-after (take (m .sent-at) (F q))) r (omega arith),
+        subst (λ ys. entry (vector-after ys) r ≤ L r) (cut-row N L grows l) (before p r exists k),
+        rises-take no-vector (m .sent-at) (L q) (F q) (vectored built few q .rises) (last-backed N L grows consistent exists l sender) r (omega arith),
+        before q r sender k,
+      )))
 
 all-both : {X : Type 0} (P Q R : X → Type 0) → ((x : X) → P x → Q x → R x) → (xs : List X) → All P xs → All Q xs → All R xs
 all-both P Q R f [] a b = tt

@@ -3,3 +3,4 @@ pub mod Lines
 pub mod Built
 pub mod Played
 pub mod Vectors
+pub mod Laws

@@ -9,7 +9,7 @@ use Rattle.std.specs.shelf.Lists.{joined}
 use Rattle.programs.specs.Program.{Meaning}
 use Rattle.records.specs.declared.Interval.{Interval}
 use Rattle.runs.specs.Run.{Configuration, Move, took, moved, Run}
-use Rattle.lines.specs.Built.{Given}
+use Rattle.lines.specs.Built.{Given, Gives}
 use Rattle.lines.specs.Intervals.{Family, play, waiting, outputs}
 
 -- the states, waiting values and outputs of what was recorded
@@ -38,7 +38,7 @@ inputs-at p ms = joined (input-at p) ms
 
 -- the n-th input of each process has a value that it was given under n
 abbrev pub Fits : Given → List Move → Type 0
-Fits given ms = (p k : ℕ) → k < length (inputs-at p ms) → given p (k + 1) (getD (inputs-at p ms) k 0)
+Fits given ms = (p k : ℕ) → k < length (inputs-at p ms) → Gives given p (k + 1) (getD (inputs-at p ms) k 0)
 
 -- a run without failure whose steps are the intervals, in order at each process, and which ends as they stand
 pub record Recorded (M : Meaning) (N : ℕ) (given : Given) (F : Family) (moves : List Move) : Type 0 where
