@@ -12,7 +12,7 @@ use Rattle.std.proofs.shelf.Tests.{cases-eq, cases-lt}
 use Rattle.programs.specs.Program.{Meaning}
 use Rattle.records.specs.declared.Interval.{Interval}
 use Rattle.lines.specs.Built.{Given, Gives, Grows, Built, begins, input, delivery, cut}
-use Rattle.lines.specs.Intervals.{Family, Message, channel, taken, waiting, next-input, vector-after, merged, begun, by-input, by-delivery}
+use Rattle.lines.specs.Intervals.{Family, Message, play, channel, taken, waiting, next-input, vector-after, merged, begun, by-input, by-delivery}
 use Rattle.lines.specs.Lines.{Line, Backed, Consistent}
 use Rattle.lines.proofs.Indexes.{From, from-drop, sent-late, channel-append, indexed}
 
@@ -94,10 +94,10 @@ still-first F L q p m ms from whole early first =
     let found = first-part (L q) (taken q (F p)) (channel p (take (L q) (F q))) (channel p (drop (L q) (F q))) m ms (ap (drop (taken q (F p))) (sym split) ∙ first) (rest-late (L q) p (F q) from) early in
     (found .0, ap (λ xs. drop (taken q xs) (channel p (take (L q) (F q)))) whole ∙ found .1)
 
-same-delivery : (M : Meaning) (N : ℕ) (F : Family) (L : Line) (q p : ℕ) (m : Message) → cut F L p ≡ F p → m .sent-at ≤ L q → by-delivery M N (cut F L) q p m ≡ by-delivery M N F q p m
+same-delivery : (M : Meaning) (N : ℕ) (F : Family) (L : Line) (q p : ℕ) (m : Message) → cut F L p ≡ F p → m .sent-at ≤ L q → by-delivery M N (play M p (cut F L p)) (cut F L) q p m ≡ by-delivery M N (play M p (F p)) F q p m
 same-delivery M N F L q p m whole early =
-    ap (λ ys. begun M N p (cut F L p) q m (merged (vector-after (cut F L p)) (vector-after ys))) (take-take (m .sent-at) (L q) (F q) early)
-    ∙ ap (λ xs. begun M N p xs q m (merged (vector-after xs) (vector-after (take (m .sent-at) (F q))))) whole
+    ap (λ ys. begun M N p (play M p (cut F L p)) (cut F L p) q m (merged (vector-after (cut F L p)) (vector-after ys))) (take-take (m .sent-at) (L q) (F q) early)
+    ∙ ap (λ xs. begun M N p (play M p xs) xs q m (merged (vector-after xs) (vector-after (take (m .sent-at) (F q))))) whole
 
 pub built-cut : {M : Meaning} {N : ℕ} {given : Given} {F : Family} → Built M N given F → (L : Line) → Consistent N F L → Built M N given (cut F L)
 built-cut (begins none) L consistent = begins (λ p. ap (take (L p)) (none p) ∙ take-all (L p) [] (omega arith))
@@ -107,7 +107,7 @@ built-cut {M} {N} {given} (input {F} {G} p v built exists g grows) L consistent 
     go before (inr l) = built-same before (cut-before N L grows l)
     go before (inl l) =
         let whole : cut F L p ≡ F p = cut-row N L grows l in
-        input p v before exists (subst (λ xs. Gives given p (next-input xs) v) (sym whole) g) (subst (λ xs. Grows (cut F L) p (by-input M N p xs v) (cut G L)) (sym whole) (cut-grows N L grows l))
+        input p v before exists (subst (λ xs. Gives given p (next-input xs) v) (sym whole) g) (subst (λ xs. Grows (cut F L) p (by-input M N p (play M p xs) xs v) (cut G L)) (sym whole) (cut-grows N L grows l))
 built-cut {M} {N} {given} (delivery {F} {G} q p m ms built sender exists first grows) L consistent = go (built-cut built L (smaller N L grows consistent)) (cases-lt (length (F p)) (L p))
   where
     go : Built M N given (cut F L) → (length (F p) < L p) ⊎ (L p ≤ length (F p)) → Built M N given (cut G L)

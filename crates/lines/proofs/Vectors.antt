@@ -15,7 +15,7 @@ use Rattle.std.proofs.shelf.Tests.{cases-eq, cases-lt}
 use Rattle.programs.specs.Program.{Meaning}
 use Rattle.records.specs.declared.Interval.{Interval}
 use Rattle.lines.specs.Built.{Given, Grows, Built, begins, input, delivery, cut}
-use Rattle.lines.specs.Intervals.{Family, Message, channel, taken, waiting, no-vector, vector-after, merged, by-input, by-delivery}
+use Rattle.lines.specs.Intervals.{Family, Message, play, channel, taken, waiting, no-vector, vector-after, merged, by-input, by-delivery}
 use Rattle.lines.specs.Lines.{Line, Backed, Consistent}
 use Rattle.lines.specs.Vectors.{entry, Covered}
 use Rattle.lines.proofs.Cut.{smaller, cut-before, cut-row, last-backed}
@@ -103,14 +103,14 @@ vectored : {M : Meaning} {N : ℕ} {given : Given} {F : Family} → Built M N gi
 vectored {M} {N} (begins none) few = λ p. subst (Vectored N p) (sym (none p)) record { rises = tt; own = tt; heard = tt; long = refl }
 vectored {M} {N} (input {F} p v built exists g grows) few =
     grows-each (Vectored N) grows (vectored built few)
-    (vectored-push p (F p) (by-input M N p (F p) v) (vector-after (F p)) (omega arith) (vectored built few p) refl (vectored built few p .long) (λ r k. omega arith) (λ k. absurd (omega arith)))
+    (vectored-push p (F p) (by-input M N p (play M p (F p)) (F p) v) (vector-after (F p)) (omega arith) (vectored built few p) refl (vectored built few p .long) (λ r k. omega arith) (λ k. absurd (omega arith)))
 vectored {M} {N} (delivery {F} q p m ms built sender exists first grows) few =
     grows-each (Vectored N) grows (vectored built few)
     (push (vectored built few p) (vectored built few q) (all-drop (λ y. y .sent-at ≤ 0 + length (F q)) (taken q (F p)) (channel p (F q)) (sent-early 0 p (F q) (indexed built q))))
   where
-    push : Vectored N p (F p) → Vectored N q (F q) → All (λ (y : Message). y .sent-at ≤ 0 + length (F q)) (waiting F q p) → Vectored N p (F p ++ (by-delivery M N F q p m ∷ []))
+    push : Vectored N p (F p) → Vectored N q (F q) → All (λ (y : Message). y .sent-at ≤ 0 + length (F q)) (waiting F q p) → Vectored N p (F p ++ (by-delivery M N (play M p (F p)) F q p m ∷ []))
     push own other all =
-        vectored-push p (F p) (by-delivery M N F q p m) (merged (vector-after (F p)) (vector-after (take (m .sent-at) (F q)))) (omega arith) own refl (length-merged (vector-after (F p)) (vector-after (take (m .sent-at) (F q))))
+        vectored-push p (F p) (by-delivery M N (play M p (F p)) F q p m) (merged (vector-after (F p)) (vector-after (take (m .sent-at) (F q)))) (omega arith) own refl (length-merged (vector-after (F p)) (vector-after (take (m .sent-at) (F q))))
         (λ r k. omega (arith, merged-entry (vector-after (F p)) (vector-after (take (m .sent-at) (F q))) r k))
         (λ k. go (cases-eq q p))
       where

@@ -6,7 +6,7 @@ use mathlib.Core.Path.{_≡_}
 use lib.ListN.{take}
 use Rattle.programs.specs.Program.{Meaning}
 use Rattle.records.specs.declared.Interval.{Interval}
-use Rattle.lines.specs.Intervals.{Family, Message, waiting, next-input, by-input, by-delivery}
+use Rattle.lines.specs.Intervals.{Family, Message, play, waiting, next-input, by-input, by-delivery}
 use Rattle.lines.specs.Lines.{Line}
 
 -- which values were given to a process under which number
@@ -24,9 +24,9 @@ pub record Grows (F : Family) (p : ℕ) (x : Interval) (G : Family) : Type 0 whe
 -- a family that N processes of the program record in a run, one interval at a time, each input a given one
 pub data Built (M : Meaning) (N : ℕ) (given : Given) : Family → Type 0 where
   begins : {F : Family} → ((p : ℕ) → F p ≡ []) → Built M N given F
-  input : {F G : Family} (p v : ℕ) → Built M N given F → p < N → Gives given p (next-input (F p)) v → Grows F p (by-input M N p (F p) v) G → Built M N given G
+  input : {F G : Family} (p v : ℕ) → Built M N given F → p < N → Gives given p (next-input (F p)) v → Grows F p (by-input M N p (play M p (F p)) (F p) v) G → Built M N given G
   delivery : {F G : Family} (q p : ℕ) (m : Message) (ms : List Message) → Built M N given F → q < N → p < N → waiting F q p ≡ m ∷ ms →
-      Grows F p (by-delivery M N F q p m) G → Built M N given G
+      Grows F p (by-delivery M N (play M p (F p)) F q p m) G → Built M N given G
 
 -- all intervals above the line are gone
 abbrev pub cut : Family → Line → Family

@@ -60,23 +60,23 @@ vector-after xs = folded (λ _ x. x .vector) no-vector xs
 abbrev pub merged : List ℕ → List ℕ → List ℕ
 merged v w = map (λ i. max (getD v i 0) (getD w i 0)) (counting 0 8)
 
--- the interval that a process begins after xs, with a value from a source
-abbrev pub begun : Meaning → ℕ → ℕ → List Interval → ℕ → Message → List ℕ → Interval
-begun M N p xs source m vector = record {
+-- the interval that process p begins in a state after xs, with a message from a source
+abbrev pub begun : Meaning → ℕ → ℕ → State → List Interval → ℕ → Message → List ℕ → Interval
+begun M N p s xs source m vector = record {
   process = p;
   index = length xs + 1;
   source = source;
   «sent_at» = m .sent-at;
   value = m .value;
-  sends = within N (M .step p (play M p xs) source (m .value) .1);
-  output = M .step p (play M p xs) source (m .value) .2;
+  sends = within N (M .step p s source (m .value) .1);
+  output = M .step p s source (m .value) .2;
   vector = set vector p (length xs + 1);
 }
 
 -- by an input: sent-at is 0, and the vector is the last one with its own entry raised
-abbrev pub by-input : Meaning → ℕ → ℕ → List Interval → ℕ → Interval
-by-input M N p xs v = begun M N p xs 8 (record { value = v; sent-at = 0 }) (vector-after xs)
+abbrev pub by-input : Meaning → ℕ → ℕ → State → List Interval → ℕ → Interval
+by-input M N p s xs v = begun M N p s xs 8 (record { value = v; sent-at = 0 }) (vector-after xs)
 
 -- by a delivery from q: the vector is merged with that of the sending interval
-abbrev pub by-delivery : Meaning → ℕ → Family → ℕ → ℕ → Message → Interval
-by-delivery M N F q p m = begun M N p (F p) q m (merged (vector-after (F p)) (vector-after (take (m .sent-at) (F q))))
+abbrev pub by-delivery : Meaning → ℕ → State → Family → ℕ → ℕ → Message → Interval
+by-delivery M N s F q p m = begun M N p s (F p) q m (merged (vector-after (F p)) (vector-after (take (m .sent-at) (F q))))
