@@ -1,0 +1,5 @@
+pub mod Faults
+pub mod Meaning
+pub mod Calls
+pub mod Laws
+pub mod Slots
