@@ -1,1 +1,4 @@
 pub mod Values
+pub mod Program
+pub mod Orders
+pub mod Relay

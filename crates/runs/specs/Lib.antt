@@ -1,0 +1,5 @@
+pub mod Run
+pub mod Held
+pub mod Answers
+pub mod Inside
+pub mod Texts

@@ -1,0 +1,2 @@
+// Runs without failure, carried out step by step.
+pub mod runner;
