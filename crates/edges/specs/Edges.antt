@@ -8,7 +8,9 @@ use Rattle.programs.specs.Program.{to}
 use Rattle.programs.specs.Relay.{relay, stirred}
 use Rattle.programs.specs.declared.values.Sends.the-variants.{Nothing, One}
 use Rattle.programs.specs.declared.values.State.{State}
-use Rattle.lines.specs.Lines.{Line, greatest-line}
+use Rattle.lines.specs.Lines.{greatest-line}
+use Rattle.frames.specs.Reads.{Line-bytes}
+use Rattle.byte_store.specs.Bytes.{Line-stands}
 use Rattle.edges.specs.Story.{story, counts}
 
 -- the greatest line within the counts, as its three entries
@@ -22,3 +24,7 @@ pub record Edges : Type 0 where
   -- the picking note's interval goes with stock's lost interval; with nothing lost nothing goes
   pub line-lost : line-within 1 0 1 ≡ 1 ∷ 0 ∷ 0 ∷ []
   pub line-whole : line-within 1 2 1 ≡ 1 ∷ 2 ∷ 1 ∷ []
+  -- the line 1 and then zeros has the frame 0B 00 03 00 01 00 .. 00 5A, of 13 bytes
+  pub line-frame : Line-bytes
+  -- where it is the only unsafe record, a revive with 12 of its bytes keeps none, and with 13 one
+  pub line-stands : Line-stands
