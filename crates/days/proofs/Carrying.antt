@@ -1,18 +1,16 @@
 -- An input and the deliveries after it are one list of moves.
 use Prim.Native.Nat.{ℕ, _≤_}
-use mathlib.Core.List.{List, [], _∷_, _++_}
+use mathlib.Core.List.{List, _∷_, _++_}
 use mathlib.Core.Logic.{inr}
 use mathlib.Core.Path.{_≡_, sym, ap, subst, _∙_}
 use native.Mathlib.Omega.{arith}
 use lib.ListN.{length, drop}
-use Rattle.std.specs.Of.Vec.{vec-items}
 use Rattle.std.specs.declared.result.Result.{Result}
 use Rattle.std.specs.declared.result.Result.the-variants.{Ok, Err}
 use Rattle.std.proofs.shelf.Lists.{append-assoc, length-append, drop-at}
 use Rattle.programs.specs.Orders.{orders}
 use Rattle.programs.specs.Program.{Meaning}
 use Rattle.runs.specs.Answers.{Advanced, Delivered, Settles, Grown}
-use Rattle.runs.specs.Held.{count, configuration}
 use Rattle.runs.specs.Run.{Configuration, Move, Makes, Leads, stays, goes-on}
 use Rattle.runs.specs.declared.runner.Output.{Output}
 use Rattle.runs.specs.declared.runner.RunError.{RunError}

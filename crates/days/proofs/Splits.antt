@@ -1,21 +1,20 @@
 -- A number holds no space, so an order's text splits in one way.
-use Prim.Native.Nat.{ℕ, _+_, _-_, _<_, _≤_}
+use Prim.Native.Nat.{ℕ, _+_, _-_, _<_}
 use mathlib.Core.List.{List, _∷_, _++_}
 use mathlib.Core.Logic.{_⊎_, inl, inr}
-use mathlib.Core.Path.{_≡_, refl, sym, ap, subst, _∙_}
+use mathlib.Core.Path.{_≡_, sym, ap, subst, _∙_}
 use native.Mathlib.Omega.{arith}
 use denote.Ref.{RefT}
 use lib.Dec.{lit<}
 use lib.ListN.{length, getD, drop}
-use Rattle.std.specs.Options.{Cases}
-use Rattle.std.specs.Reads.{afterPlus, Digits}
+use Rattle.std.specs.Reads.{Digits}
 use Rattle.std.specs.declared.option.Option.{Option}
 use Rattle.std.specs.declared.option.Option.the-variants.{Some, None}
 use Rattle.std.proofs.shelf.Lists.{getD-drop, length-drop}
 use Rattle.std.proofs.shelf.Numerals.{digit-at, afterPlus-none, afterPlus-plus}
 use Rattle.std.proofs.shelf.Patterns.{SplitAt, split-after, split-parts}
 use Rattle.std.proofs.shelf.Results.{cases-at-some, cases-at-none}
-use Rattle.std.proofs.shelf.Tests.{cases-eq, cases-lt}
+use Rattle.std.proofs.shelf.Tests.{cases-eq}
 use Rattle.programs.specs.declared.orders.Order.{Order}
 use Rattle.days.specs.Entry.{Number, Spells}
 

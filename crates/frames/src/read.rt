@@ -1,7 +1,7 @@
 // A frame read back from bytes, strictly.
 ghost use mathlib.Core.Path.{_≡_};
 ghost use Prim.Native.Nat.{_+_, _≤_};
-ghost use lib.ListN.{length, getD, drop};
+ghost use lib.ListN.{getD, drop};
 ghost use Rattle.frames.specs.Reads.{candidate as best, decoded, Strict, word-at, entries-at, send-at, sends-at, output-at, interval-at, checkpoint-at};
 use crate::write::LARGEST;
 use crate::write::write_frame;

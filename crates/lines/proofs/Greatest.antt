@@ -1,6 +1,6 @@
 -- The greatest line is consistent, within the counts and nowhere below such a line; and it is the only one.
 use Prim.Native.Nat.{ℕ, zero, suc, _+_, _<_, _≤_, min}
-use mathlib.Core.Bool.{Bool, true, false, cond, not, _||_}
+use mathlib.Core.Bool.{Bool, true, false, not, _||_}
 use mathlib.Core.List.{List, [], _∷_}
 use mathlib.Core.Logic.{_⊎_, inl, inr}
 use mathlib.Core.Path.{_≡_, refl, sym, ap, subst, _∙_}
@@ -9,13 +9,13 @@ use lib.Dec.{ltb, leb}
 use lib.ListN.{length, take}
 use Rattle.std.specs.shelf.Lists.{All, leading}
 use Rattle.std.proofs.shelf.Elements.{all-weaker}
-use Rattle.std.proofs.shelf.Lists.{length-take, take-take, take-all}
+use Rattle.std.proofs.shelf.Lists.{length-take, take-take}
 use Rattle.std.proofs.shelf.Sums.{leading-le-length}
 use Rattle.std.proofs.shelf.Tests.{cases-lt, cases-bool, cond-true, lt-ltb}
 use Rattle.std.proofs.shelf.Ways.{tells}
 use Rattle.records.specs.declared.Interval.{Interval}
 use Rattle.lines.specs.Intervals.{Family}
-use Rattle.lines.specs.Lines.{Line, Backed, Consistent, Within, Greatest, total, backed, lowered, rounds, clipped, greatest-line}
+use Rattle.lines.specs.Lines.{Line, Backed, Consistent, Greatest, total, backed, lowered, rounds, clipped, greatest-line}
 
 pub backed-true : (N : ℕ) (L : Line) (x : Interval) → backed N L x ≡ true → Backed N L x
 backed-true N L x e h = grind (arith, tells)

@@ -1,5 +1,5 @@
 -- What a run has recorded is recorded by a run: one step for each interval, in the order in which they were built.
-use Prim.Native.Nat.{ℕ, zero, suc, _+_, _<_, _≤_}
+use Prim.Native.Nat.{ℕ, _+_, _<_, _≤_}
 use mathlib.Core.Bool.{Bool, true, false, cond}
 use mathlib.Core.List.{List, [], _∷_, _++_, map}
 use mathlib.Core.Logic.{_⊎_, inl, inr}
@@ -8,7 +8,7 @@ use native.Mathlib.Omega.{arith}
 use lib.Dec.{eqb, ltb}
 use lib.ListN.{length, getD, drop}
 use Rattle.std.specs.Vec.{listOf}
-use Rattle.std.specs.shelf.Lists.{joined, kept-by}
+use Rattle.std.specs.shelf.Lists.{kept-by}
 use Rattle.std.proofs.shelf.Lists.{append-nil, map-append, map-push, drop-append-le, drop-all, length-push, getD-push, getD-append-left}
 use Rattle.std.proofs.shelf.Sums.{folded-push}
 use Rattle.std.proofs.shelf.Tests.{cases-eq, cases-lt, eq-eqb, ne-eqb, cond-true, cond-false}
@@ -18,11 +18,11 @@ use Rattle.programs.specs.declared.values.Send.{Send}
 use Rattle.programs.specs.declared.values.Sends.{Sends}
 use Rattle.programs.specs.declared.values.Sends.the-variants.{Nothing, One, Two}
 use Rattle.records.specs.declared.Interval.{Interval}
-use Rattle.runs.specs.Run.{Configuration, Fresh, Steps, Leaves, Move, took, moved, Makes, Leads, stays, goes-on, Run, sent-to}
+use Rattle.runs.specs.Run.{Configuration, Steps, Leaves, Move, took, moved, stays, goes-on, sent-to}
 use Rattle.lines.specs.Built.{Given, Gives, Grows, Built, begins, input, delivery}
-use Rattle.lines.specs.Intervals.{Family, Message, play, sent-in, channel, taken, waiting, next-input, outputs, by-input, by-delivery}
+use Rattle.lines.specs.Intervals.{Family, Message, play, sent-in, channel, taken, waiting, outputs}
 use Rattle.lines.specs.Played.{stand, step-at, input-at, steps-at, inputs-at, Fits, Recorded}
-use Rattle.lines.proofs.Taken.{joined-push, taken-same, taken-more, taken-push, channel-more, outputs-more, idle, some-left, drop-next, Sent, sent}
+use Rattle.lines.proofs.Taken.{joined-push, taken-same, taken-more, channel-more, outputs-more, idle, some-left, drop-next, sent}
 
 listed-within : (N : ℕ) (s : Sends) → listed (within N s) ≡ reaching N (listed s)
 listed-within N Nothing = refl

@@ -1,23 +1,21 @@
 -- What one interval more does to counts, channels, outputs and states; no process takes more than was sent to it.
-use Prim.Native.Nat.{ℕ, zero, suc, _+_, _<_, _≤_}
+use Prim.Native.Nat.{ℕ, _+_, _<_, _≤_}
 use mathlib.Core.Bool.{Bool, true, false, cond}
-use mathlib.Core.List.{List, [], _∷_, _++_, map}
+use mathlib.Core.List.{List, [], _∷_, _++_}
 use mathlib.Core.Logic.{_⊎_, inl, inr}
 use mathlib.Core.Path.{_≡_, refl, sym, ap, subst, _∙_}
 use native.Mathlib.Omega.{arith}
 use lib.Dec.{eqb}
 use lib.ListN.{length, drop}
 use Rattle.std.specs.Vec.{listOf}
-use Rattle.std.specs.shelf.Lists.{All, joined, kept-by}
+use Rattle.std.specs.shelf.Lists.{joined, kept-by}
 use Rattle.std.proofs.shelf.Elements.{kept-by-append}
 use Rattle.std.proofs.shelf.Lists.{append-nil, append-assoc, length-append, length-drop, drop-drop}
-use Rattle.std.proofs.shelf.Sums.{folded-push}
 use Rattle.std.proofs.shelf.Tests.{cases-eq, eq-eqb, ne-eqb, cond-true, cond-false}
 use Rattle.programs.specs.Program.{Meaning}
 use Rattle.records.specs.declared.Interval.{Interval}
 use Rattle.lines.specs.Built.{Given, Grows, Built, begins, input, delivery}
-use Rattle.lines.specs.Intervals.{Family, Message, sent-in, channel, taken, waiting, outputs}
-use Rattle.lines.proofs.Indexes.{channel-append, grows-each}
+use Rattle.lines.specs.Intervals.{Family, sent-in, channel, taken, outputs}
 
 pub joined-push : {X A : Type 0} (f : X → List A) (xs : List X) (x : X) → joined f (xs ++ (x ∷ [])) ≡ joined f xs ++ f x
 joined-push f [] x = append-nil (f x)

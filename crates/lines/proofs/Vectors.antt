@@ -1,20 +1,20 @@
 -- In what a run records, a line within the rows is consistent exactly if it covers its vectors.
 use Prim.Native.Nat.{ℕ, zero, suc, _+_, _<_, _≤_, max}
-use mathlib.Core.List.{List, [], _∷_, _++_, map}
-use mathlib.Core.Logic.{_⊎_, inl, inr, _≢_}
+use mathlib.Core.List.{List, [], _∷_, _++_}
+use mathlib.Core.Logic.{_⊎_, inl, inr}
 use mathlib.Core.Path.{_≡_, refl, sym, ap, subst, _∙_}
 use native.Mathlib.Omega.{arith}
-use lib.ListN.{length, getD, set, take, drop, replicate}
-use Rattle.std.specs.Iters.{folded, counting}
+use lib.ListN.{length, getD, set, take}
+use Rattle.std.specs.Iters.{folded}
 use Rattle.std.specs.shelf.Lists.{All}
 use Rattle.std.proofs.shelf.Counted.{getD-map-counting, length-map-counting}
-use Rattle.std.proofs.shelf.Elements.{all-push, all-take, all-drop, all-weaker}
-use Rattle.std.proofs.shelf.Lists.{getD-set-same, getD-set-other, length-set, getD-replicate, length-replicate, take-append-le, take-all, length-push}
+use Rattle.std.proofs.shelf.Elements.{all-push, all-take, all-drop}
+use Rattle.std.proofs.shelf.Lists.{getD-set-same, getD-set-other, length-set, getD-replicate, take-all, length-push}
 use Rattle.std.proofs.shelf.Sums.{folded-push}
 use Rattle.std.proofs.shelf.Tests.{cases-eq, cases-lt}
 use Rattle.programs.specs.Program.{Meaning}
 use Rattle.records.specs.declared.Interval.{Interval}
-use Rattle.lines.specs.Built.{Given, Grows, Built, begins, input, delivery, cut}
+use Rattle.lines.specs.Built.{Given, Grows, Built, begins, input, delivery}
 use Rattle.lines.specs.Intervals.{Family, Message, play, channel, taken, waiting, no-vector, vector-after, merged, by-input, by-delivery}
 use Rattle.lines.specs.Lines.{Line, Backed, Consistent}
 use Rattle.lines.specs.Vectors.{entry, Covered}

@@ -1,6 +1,6 @@
 -- The intervals of a process: what they play to, what they send, take and put out, and their vectors.
 use Prim.Native.Nat.{ℕ, _+_, max}
-use mathlib.Core.List.{List, [], _∷_, map}
+use mathlib.Core.List.{List, map}
 use lib.Dec.{eqb}
 use lib.ListN.{length, getD, set, take, drop, replicate}
 use Rattle.std.specs.Iters.{folded, counting}

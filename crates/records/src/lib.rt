@@ -1,5 +1,4 @@
 // The records that a store keeps: what a process did, where it stood, and how far all went back.
-use programs::values::Send;
 use programs::values::Sends;
 use programs::values::SendsDebug;
 use programs::values::SendsEq;

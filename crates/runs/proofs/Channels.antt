@@ -3,18 +3,17 @@ use Prim.Native.Nat.{ℕ, _+_, _-_, _<_, _≤_, suc}
 use mathlib.Core.Bool.{Bool, true, _&&_}
 use mathlib.Core.List.{List, [], _∷_, _++_, map}
 use mathlib.Core.Logic.{_⊎_, inl, inr}
-use mathlib.Core.Path.{_≡_, refl, sym, ap, subst, _∙_}
+use mathlib.Core.Path.{_≡_, refl, sym, ap, _∙_}
 use native.Mathlib.Omega.{arith}
 use lib.Dec.{eqb, ltb}
 use lib.ListN.{length, getD, take, drop}
 use lib.Seq.{drop-cons}
-use Rattle.std.specs.Holes.{removed}
 use Rattle.std.specs.Vec.{listOf}
 use Rattle.std.specs.shelf.Lists.{kept-by, All}
 use Rattle.std.specs.declared.option.Option.{Option}
 use Rattle.std.specs.declared.option.Option.the-variants.{Some, None}
 use Rattle.std.proofs.shelf.Elements.{kept-by-append, kept-by-passes, all-getD, all-map, all-weaker}
-use Rattle.std.proofs.shelf.Lists.{map-append, append-nil, take-append-drop, take-more, getD-default, getD-append-left, getD-append-right, length-append}
+use Rattle.std.proofs.shelf.Lists.{map-append, take-append-drop, take-more, getD-default, getD-append-left, getD-append-right, length-append}
 use Rattle.std.proofs.shelf.Tests.{cases-lt, ltb-true}
 use Rattle.std.proofs.shelf.Ways.{tells}
 use Rattle.programs.specs.Values.{reaching}

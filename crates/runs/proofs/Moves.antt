@@ -1,7 +1,7 @@
 -- What a runner's lists do in a step is what the configurations do in a move.
 use Prim.Native.Nat.{ℕ, _+_, _<_}
 use mathlib.Core.List.{List, [], _∷_, _++_, map}
-use mathlib.Core.Path.{_≡_, refl, sym, ap, subst, _∙_}
+use mathlib.Core.Path.{_≡_, sym, ap, subst, _∙_}
 use native.Mathlib.Omega.{arith}
 use lib.ListN.{length, getD, set}
 use Rattle.std.specs.Holes.{removed}
@@ -14,7 +14,7 @@ use Rattle.programs.specs.declared.values.State.{State}
 use Rattle.runs.specs.Answers.{Advanced}
 use Rattle.runs.specs.Held.{count, channel, outputs-of, of-lists, configuration, Unchanged}
 use Rattle.runs.specs.Inside.{message, output, Frees, Stepped}
-use Rattle.runs.specs.Run.{Configuration, Steps, Leaves, Move, took, moved, Makes}
+use Rattle.runs.specs.Run.{Steps, Move, took, moved, Makes}
 use Rattle.runs.specs.declared.runner.Message.{Message}
 use Rattle.runs.specs.declared.runner.Output.{Output}
 use Rattle.runs.specs.declared.runner.Runner.{Runner}

@@ -5,7 +5,7 @@ use mathlib.Core.Path.{_≡_}
 use lib.Dec.{eqb}
 use Rattle.std.specs.Vec.{listOf}
 use Rattle.std.specs.shelf.Lists.{kept-by}
-use Rattle.programs.specs.Program.{Meaning, Step}
+use Rattle.programs.specs.Program.{Meaning}
 use Rattle.programs.specs.Values.{listed, reaching}
 use Rattle.programs.specs.declared.values.Send.{Send}
 use Rattle.programs.specs.declared.values.State.{State}

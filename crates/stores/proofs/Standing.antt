@@ -1,18 +1,17 @@
 -- What is safe stands, through each call and so through all of them.
 use Prim.Native.Nat.{ℕ, _+_, _≤_}
-use mathlib.Core.Bool.{cond}
 use mathlib.Core.List.{List, [], _∷_, _++_}
-use mathlib.Core.Path.{_≡_, refl, sym, ap, _∙_}
+use mathlib.Core.Path.{refl, sym, ap, _∙_}
 use native.Mathlib.Omega.{arith}
 use lib.Dec.{leb}
-use lib.ListN.{length, take, length-append}
+use lib.ListN.{take, length-append}
 use lib.Seq.{take-append-le}
 use Rattle.std.proofs.shelf.Lists.{length-take, take-take}
 use Rattle.std.proofs.shelf.Tests.{cond-both}
 use Rattle.std.specs.declared.result.Result.{Result}
 use Rattle.std.specs.declared.result.Result.the-variants.{Ok, Err}
 use Rattle.records.specs.declared.Record.{Record}
-use Rattle.stores.specs.Calls.{Outcome, with-power, with-records, all-safe, changed, spent, powered, appended, synced, revived}
+use Rattle.stores.specs.Calls.{Outcome, with-power, with-records, all-safe, changed, spent, appended, synced, revived}
 use Rattle.stores.specs.Laws.{Call, append, sync, arm, revive, after, after-all, Stands, Safe-records-last}
 use Rattle.stores.specs.Meaning.{Meaning, count}
 use Rattle.stores.specs.declared.power.Power.{Power}

@@ -1,6 +1,3 @@
-use mathlib.Core.Path.{_∙_, sym, subst}
-use Prim.Native.Nat.{_≤_}
-use lib.ListN.{length}
 use Rattle.std.specs.Of.Vec.{vec-items}
 use Rattle.days.specs.Shop.{issued}
 use Rattle.days.proofs.Carrying.{longer, told-since}

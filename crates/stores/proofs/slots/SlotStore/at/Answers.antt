@@ -1,7 +1,7 @@
 use Prim.Native.Nat.{_+_, _<_}
 use mathlib.Core.Path.{sym, _∙_}
 use native.Mathlib.Omega.{arith}
-use lib.ListN.{length, take}
+use lib.ListN.{length}
 use Rattle.std.proofs.shelf.Lists.{length-take, getD-take, getD-default}
 use Rattle.stores.proofs.slots.SlotStore.at.Needs as need
 

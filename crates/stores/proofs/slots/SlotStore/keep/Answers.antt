@@ -1,5 +1,5 @@
 use Prim.Native.Nat.{min}
-use mathlib.Core.Path.{_≡_, refl, ap, _∙_}
+use mathlib.Core.Path.{refl, ap, _∙_}
 use Rattle.stores.proofs.Laid.{shortened}
 use Rattle.stores.proofs.slots.SlotStore.keep.Needs as need
 
