@@ -170,7 +170,6 @@ story : {M : Meaning} {N : ℕ} {given : Given} {F : Family} → N ≤ 8 → Bui
 story {M} {N} {given} {F} few (begins none) = ([], started M N given F none)
 story {M} {N} {given} few (input {F} {G} p v built exists g grows) = go (story few built)
   where
-
     go : (moves : List Move) × Story M N given F moves → (moves : List Move) × Story M N given G moves
     go (ms, told) = (
       ms ++ (took p v ∷ []),

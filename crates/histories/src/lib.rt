@@ -1,0 +1,1 @@
+// What each call of a host means.
