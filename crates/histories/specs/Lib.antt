@@ -4,3 +4,4 @@ pub mod Reading
 pub mod Tests
 pub mod Effects
 pub mod Rules
+pub mod Scripts
