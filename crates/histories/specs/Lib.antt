@@ -5,3 +5,5 @@ pub mod Tests
 pub mod Effects
 pub mod Rules
 pub mod Scripts
+pub mod Ledger
+pub mod History
