@@ -1,2 +1,4 @@
 mod Writing
 mod Images
+mod Fronts
+mod Remembered
