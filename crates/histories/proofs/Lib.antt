@@ -2,3 +2,4 @@ mod Writing
 mod Images
 mod Fronts
 mod Remembered
+mod Holds
