@@ -3,3 +3,4 @@ mod Images
 mod Fronts
 mod Remembered
 mod Holds
+mod Steps
