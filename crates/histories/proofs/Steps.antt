@@ -23,13 +23,13 @@ use Rattle.lines.specs.Intervals.{Family, play}
 use Rattle.lines.specs.Lines.{Line}
 use Rattle.histories.specs.Calls.{Answer, accepted, refused}
 use Rattle.histories.specs.Effects.{After, began, crashed, finished, written, interval-record, checkpoint-record, all-saved, saving, marking}
-use Rattle.histories.specs.Reading.{Image, reading}
+use Rattle.histories.specs.Reading.{Image, noted, reading}
 use Rattle.histories.specs.Tests.{unsaved}
 use Rattle.histories.specs.World.{World, at, darkened}
 use Rattle.histories.proofs.Fronts.{Front, front-self, front-none, front-more, front-length, front-via, front-taken, front-take}
 use Rattle.histories.proofs.Holds.{Family-holds, Rows-hold, Store-holds, Holds, Lasts, Next, low, grown-lasts, grown-store, grown-family}
 use Rattle.histories.proofs.Images.{at-same, at-other, reading-on, reading-append, rows-more, rows-others}
-use Rattle.histories.proofs.Remembered.{Kept, Remembered, kept-whole, kept-intervals, kept-checkpoint, remembered-write}
+use Rattle.histories.proofs.Remembered.{Good, Kept, Remembered, kept-whole, kept-intervals, kept-checkpoint, remembered-write}
 use Rattle.histories.proofs.Writing.{Wrote, done, died, wrote}
 
 pub at-each : {X : Type 0} (P : ℕ → X → Type 0) (f : ℕ → X) (p : ℕ) (y : X) → P p y → ((r : ℕ) → (r ≡ p → ⊥) → P r (f r)) → (r : ℕ) → P r (at f p y r)
@@ -258,3 +258,29 @@ module _ (V : Type 0) (M : Meaning) (N : ℕ) (K : Line) where
       where
         after : store.Meaning → After
         after m = (accepted (length (w .intervals p) ∷ []), all-saved p w m)
+
+    -- all of p's row and its checkpoint, read
+    marked : reading (w .store .records ++ (map interval-record (unsaved w p) ++ (checkpoint-record p (length (w .intervals p)) (w .state p) ∷ [])))
+        ≡ noted (reading-on (reading (w .store .records)) (map interval-record (unsaved w p))) (checkpoint-record p (length (w .intervals p)) (w .state p) .content)
+    marked = reading-append (w .store .records) _ ∙ folded-push (λ j r. noted j (r .content)) (reading (w .store .records)) (map interval-record (unsaved w p)) (checkpoint-record p (length (w .intervals p)) (w .state p))
+
+    marked-kept : Kept V M N F K (noted (reading-on (reading (w .store .records)) (map interval-record (unsaved w p))) (checkpoint-record p (length (w .intervals p)) (w .state p) .content))
+    marked-kept =
+        kept-checkpoint V M N F K (reading-on (reading (w .store .records)) (map interval-record (unsaved w p))) (record { process = p; index = length (w .intervals p); state = w .state p })
+        (λ v. subst (λ xs. Good M p xs (record { process = p; index = length (w .intervals p); state = w .state p })) (sym row-read)
+          (omega arith, h .rows .states v p up ∙ ap (play M p) (sym (take-all (length (w .intervals p)) (w .intervals p) (omega arith)))))
+        (subst (λ xs. Kept V M N F K (reading-on (reading (w .store .records)) (map interval-record xs))) (take-all (length (unsaved w p)) (unsaved w p) (omega arith)) (some-kept (length (unsaved w p))))
+
+    mark-kept : (j : ℕ) → Kept V M N F K (reading (w .store .records ++ take j (map interval-record (unsaved w p) ++ (checkpoint-record p (length (w .intervals p)) (w .state p) ∷ []))))
+    mark-kept j = go (cases-lt (length (map interval-record (unsaved w p))) j)
+      where
+        go : (length (map interval-record (unsaved w p)) < j) ⊎ (j ≤ length (map interval-record (unsaved w p))) → Kept V M N F K (reading (w .store .records ++ take j (map interval-record (unsaved w p) ++ (checkpoint-record p (length (w .intervals p)) (w .state p) ∷ []))))
+        go (inr l) = subst (λ rs. Kept V M N F K (reading (w .store .records ++ rs))) (sym (take-append-le j (map interval-record (unsaved w p)) _ l)) (intervals-kept j)
+        go (inl l) = subst (λ rs. Kept V M N F K (reading (w .store .records ++ rs))) (sym (take-all j _ (simp length-push (omega arith)))) (subst (Kept V M N F K) (sym marked) marked-kept)
+
+    pub next-marking : store.count (w .store) + (length (unsaved w p) + 1) ≤ w .store .capacity → Next V M N given K F (marking p w .1)
+    next-marking room =
+        next-written w (h .family) (map interval-record (unsaved w p) ++ (checkpoint-record p (length (w .intervals p)) (w .state p) ∷ [])) (λ m. (accepted (length (w .intervals p) ∷ []), all-saved p w m)) lives all-safe
+        (simp (length-push, length-map) room) mark-kept
+        (λ m alive is stored. next-saved m alive stored (ap (λ rs. reading rs .rows p) is ∙ ap (λ i. i .rows p) marked ∙ row-read)
+          (λ r n. ap (λ rs. reading rs .rows r) is ∙ ap (λ i. i .rows r) marked ∙ row-others r n))
