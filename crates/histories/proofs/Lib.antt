@@ -4,3 +4,4 @@ mod Fronts
 mod Remembered
 mod Holds
 mod Steps
+mod Settling

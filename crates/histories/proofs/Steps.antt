@@ -39,7 +39,7 @@ at-each P f p y here there r = go (cases-eq r p)
     go (inl e) = subst (λ k. P k (at f p y k)) (sym e) (subst (P p) (sym (at-same f p y)) here)
     go (inr n) = subst (P r) (sym (at-other f p y r n)) (there r n)
 
-not-both : {A : Type 0} (b : Bool) → b ≡ true → b ≡ false → A
+pub not-both : {A : Type 0} (b : Bool) → b ≡ true → b ≡ false → A
 not-both b t f = absurd (true≢false (sym t ∙ f))
 
 module _ (V : Type 0) (M : Meaning) (N : ℕ) (K : Line) where

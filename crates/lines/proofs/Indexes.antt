@@ -31,7 +31,7 @@ from-drop n zero xs h l = subst (λ m. From m xs) (omega arith) h
 from-drop n (suc k) [] h l = tt
 from-drop n (suc k) (x ∷ xs) h l = subst (λ m. From m (drop k xs)) (omega arith) (from-drop (n + 1) k xs (h .1) (omega arith))
 
-from-take : (n k : ℕ) (xs : List Interval) → From n xs → From n (take k xs)
+pub from-take : (n k : ℕ) (xs : List Interval) → From n xs → From n (take k xs)
 from-take n zero xs h = tt
 from-take n (suc k) [] h = tt
 from-take n (suc k) (x ∷ xs) h = (h .0, from-take (n + 1) k xs (h .1))

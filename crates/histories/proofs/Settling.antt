@@ -1,0 +1,125 @@
+-- Going back to the greatest line keeps what holds.
+use Prim.Native.Nat.{ℕ, zero, suc, _+_, _-_, _<_, _≤_, min}
+use mathlib.Core.Bool.{Bool, true, false, cond, _&&_, _||_}
+use mathlib.Core.List.{List, [], _∷_, _++_, map}
+use mathlib.Core.Logic.{_⊎_, inl, inr}
+use mathlib.Core.Path.{_≡_, refl, sym, ap, subst, _∙_}
+use native.Mathlib.Omega.{arith}
+use lib.Dec.{eqb, ltb, leb}
+use lib.ListN.{length, take, drop, getD}
+use Rattle.std.specs.Iters.{folded, counting}
+use Rattle.std.specs.shelf.Lists.{All}
+use Rattle.std.proofs.shelf.Counted.{getD-map-counting}
+use Rattle.std.proofs.shelf.Elements.{all-take}
+use Rattle.std.proofs.shelf.Lists.{append-nil, take-take, take-all, take-append-drop, length-take}
+use Rattle.std.proofs.shelf.Tests.{cases-lt, ltb-true, ltb-false, leb-true, lt-ltb, cond-true, cond-false, and-parts, or-parts}
+use Rattle.programs.specs.Program.{Meaning}
+use Rattle.programs.specs.declared.values.State.{State}
+use Rattle.records.specs.declared.Checkpoint.{Checkpoint}
+use Rattle.records.specs.declared.Content.the-variants as content
+use Rattle.records.specs.declared.Interval.{Interval}
+use Rattle.records.specs.declared.Record.{Record}
+use Rattle.stores.specs.Meaning as store
+use Rattle.lines.specs.Built.{Given, Built, cut}
+use Rattle.lines.specs.Intervals.{Family, play}
+use Rattle.lines.specs.Lines.{Line, Backed, Consistent, Within, Greatest, greatest-line}
+use Rattle.lines.proofs.Cut.{built-cut}
+use Rattle.lines.proofs.Greatest.{greatest-is-greatest}
+use Rattle.lines.proofs.Indexes.{from-take}
+use Rattle.histories.specs.Effects.{After, line-record, untouched, restored, settled, settling}
+use Rattle.histories.specs.Reading.{Image, noted, reading, origin}
+use Rattle.histories.specs.Tests.{some-above}
+use Rattle.histories.specs.World.{World}
+use Rattle.histories.proofs.Fronts.{Front, front-self, front-none, front-length, front-take, front-cut}
+use Rattle.histories.proofs.Holds.{Family-holds, Rows-hold, Store-holds, Holds, Lasts, Next}
+use Rattle.histories.proofs.Images.{reading-on, reading-append}
+use Rattle.histories.proofs.Remembered.{Good, Kept, Remembered, kept-whole, kept-line}
+use Rattle.histories.proofs.Steps.{not-both, next-written}
+
+folded-append : {A B : Type 0} (f : B → A → B) (a : B) (xs ys : List A) → folded f a (xs ++ ys) ≡ folded f (folded f a xs) ys
+folded-append f a [] ys = refl
+folded-append f a (x ∷ xs) ys = folded-append f (f a x) xs ys
+
+take-min : {X : Type 0} (a b : ℕ) (xs : List X) → take a (take b xs) ≡ take (min b a) xs
+take-min a b xs = go (cases-lt b a)
+  where
+    go : (b < a) ⊎ (a ≤ b) → take a (take b xs) ≡ take (min b a) xs
+    go (inl h) = take-all a (take b xs) (omega (arith, length-take b xs)) ∙ ap (λ n. take n xs) (omega arith)
+    go (inr h) = take-take a b xs h ∙ ap (λ n. take n xs) (omega arith)
+
+-- a replay begins at a checkpoint that stands, or at the start
+origin-good : (M : Meaning) (p : ℕ) (xs : List Interval) (cs : List Checkpoint) → All (Good M p xs) cs → (origin M p cs .0 ≤ length xs) × (origin M p cs .1 ≡ play M p (take (origin M p cs .0) xs))
+origin-good M p xs cs all = go (0, M .start p) (omega arith) refl cs all
+  where
+    go : (best : ℕ × State) → best .0 ≤ length xs → best .1 ≡ play M p (take (best .0) xs) → (cs : List Checkpoint) → All (Good M p xs) cs →
+        (folded (λ b c. cond (leb (b .0) (c .index)) (c .index, c .state) b) best cs .0 ≤ length xs) × (folded (λ b c. cond (leb (b .0) (c .index)) (c .index, c .state) b) best cs .1 ≡ play M p (take (folded (λ b c. cond (leb (b .0) (c .index)) (c .index, c .state) b) best cs .0) xs))
+    go best low is [] all = (low, is)
+    go best low is (c ∷ cs) all = more (leb (best .0) (c .index)) (λ b l e. go b l e cs (all .1))
+      where
+        more : (t : Bool) → ((b : ℕ × State) → b .0 ≤ length xs → b .1 ≡ play M p (take (b .0) xs) → (folded (λ b c. cond (leb (b .0) (c .index)) (c .index, c .state) b) b cs .0 ≤ length xs) × (folded (λ b c. cond (leb (b .0) (c .index)) (c .index, c .state) b) b cs .1 ≡ play M p (take (folded (λ b c. cond (leb (b .0) (c .index)) (c .index, c .state) b) b cs .0) xs))) →
+            (folded (λ b c. cond (leb (b .0) (c .index)) (c .index, c .state) b) (cond t (c .index, c .state) best) cs .0 ≤ length xs) × (folded (λ b c. cond (leb (b .0) (c .index)) (c .index, c .state) b) (cond t (c .index, c .state) best) cs .1 ≡ play M p (take (folded (λ b c. cond (leb (b .0) (c .index)) (c .index, c .state) b) (cond t (c .index, c .state) best) cs .0) xs))
+        more true next = next (c .index, c .state) (all .0 .0) (all .0 .1)
+        more false next = next best low is
+
+below-line : (N : ℕ) (saved L : Line) → some-above N saved L ≡ false → (p : ℕ) → p < N → saved p ≤ L p
+below-line zero saved L e p h = absurd (omega arith)
+below-line (suc N) saved L e p h = go (λ k. below-line N saved L (both .0) p k) (cases-lt p N)
+  where
+    both : (some-above N saved L ≡ false) × (ltb (L N) (saved N) ≡ false)
+    both = or-parts (some-above N saved L) (ltb (L N) (saved N)) e
+    go : (p < N → saved p ≤ L p) → (p < N) ⊎ (N ≤ p) → saved p ≤ L p
+    go before (inl k) = before k
+    go before (inr k) = let same : p ≡ N = omega arith in subst (λ r. saved r ≤ L r) (sym same) (ltb-false (L N) (saved N) (both .1))
+
+-- a host that can settle: its store lives and is read, and the counts reach from what is saved
+pub record Ready (V : Type 0) (M : Meaning) (N : ℕ) (given : Given) (K : Line) (F : Family) (w : World) (c : Line) : Type 0 where
+  pub family : Family-holds V M N given K F
+  pub fronts : (p : ℕ) → Front (w .intervals p) (F p)
+  pub bounded : (p : ℕ) → w .saved p ≤ length (w .intervals p)
+  pub states : V → (p : ℕ) → w .up p ≡ true → w .state p ≡ play M p (w .intervals p)
+  pub lives : w .store .alive ≡ true
+  pub safe : w .store .safe ≡ store.count (w .store)
+  pub kept : Kept V M N F K (reading (w .store .records))
+  pub read : (p : ℕ) → reading (w .store .records) .rows p ≡ take (w .saved p) (w .intervals p)
+  pub reach : (p : ℕ) → p < N → w .saved p ≤ c p
+
+module _ (V : Type 0) (M : Meaning) (N : ℕ) (given : Given) (K : Line) (F : Family) (w : World) (c L : Line) (few : N ≤ 8) (ready : Ready V M N given K F w c) (greatest : Greatest N (w .intervals) c L) where
+  -- K is within what is saved
+  saved-above : (p : ℕ) → p < N → K p ≤ w .saved p
+  saved-above p h = omega (arith, ready .kept .above p h, ap length (ready .read p), length-take (w .saved p) (w .intervals p))
+
+  same-front : (n p : ℕ) → n ≤ length (w .intervals p) → take n (F p) ≡ take n (w .intervals p)
+  same-front n p h = front-take n (w .intervals p) (F p) (ready .fronts p) h
+
+  -- K is nowhere above the line
+  under : (p : ℕ) → p < N → K p ≤ L p
+  under = greatest .highest K
+      (λ p h. subst (All (Backed N K)) (same-front (K p) p (omega (arith, saved-above p h, ready .bounded p))) (ready .family .consistent p h))
+      (λ p h. (omega (arith, saved-above p h, ready .reach p h), omega (arith, saved-above p h, ready .bounded p)))
+
+  line-consistent : Consistent N F L
+  line-consistent p h = subst (All (Backed N L)) (sym (same-front (L p) p (greatest .inside p h .1))) (greatest .consistent p h)
+
+  empty-row : (p : ℕ) → N ≤ p → w .intervals p ≡ []
+  empty-row p h = go (w .intervals p) (ready .fronts p .1)
+    where
+      go : (xs : List Interval) → F p ≡ xs ++ ready .fronts p .0 → xs ≡ []
+      go [] e = refl
+      go (x ∷ xs) e = absurd (let none = ready .family .idle p h in let z : _≡_ {A = ℕ} 0 1 = cc in omega arith)
+
+  lasts : Lasts N K F (cut F L)
+  lasts p h = take-take (K p) (L p) (F p) (under p h)
+
+  family-cut : Family-holds V M N given K (cut F L)
+  family-cut = record {
+    short = λ p. omega (arith, ready .family .short p, length-take (L p) (F p));
+    named = λ p. all-take (λ x. x .process ≡ p) (L p) (F p) (ready .family .named p);
+    indexed = λ p. from-take 0 (L p) (F p) (ready .family .indexed p);
+    idle = λ p h. ap (take (L p)) (ready .family .idle p h) ∙ take-all (L p) [] (omega arith);
+    consistent = λ p h. subst (All (Backed N K)) (sym (lasts p h)) (ready .family .consistent p h);
+    built = λ v. built-cut (ready .family .built v) L line-consistent;
+  }
+
+  -- the rows that are read then
+  Rows-cut : Image → Type 0
+  Rows-cut i = (p : ℕ) → i .rows p ≡ take (min (w .saved p) (L p)) (w .intervals p)
