@@ -121,5 +121,64 @@ module _ (V : Type 0) (M : Meaning) (N : ℕ) (given : Given) (K : Line) (F : Fa
   }
 
   -- the rows that are read then
-  Rows-cut : Image → Type 0
+  abbrev Rows-cut : Image → Type 0
   Rows-cut i = (p : ℕ) → i .rows p ≡ take (min (w .saved p) (L p)) (w .intervals p)
+
+  module _ (i : Image) (rows : Rows-cut i) (kept : Kept V M N F K i) where
+    -- what is read is remembered of the cut family too
+    kept-cut : Kept V M N (cut F L) K i
+    kept-cut = record {
+      fronts = λ p. front-cut (L p) (i .rows p) (F p) (kept .fronts p) (omega (arith, ap length (rows p), length-take (min (w .saved p) (L p)) (w .intervals p)));
+      above = kept .above;
+      checks = kept .checks;
+    }
+
+    -- a replayed state is the state played from the start
+    replay : V → (p : ℕ) → folded (λ s x. M .step p s (x .source) (x .value) .0) (origin M p (i .checkpoints p) .1) (drop (origin M p (i .checkpoints p) .0) (take (L p) (w .intervals p))) ≡ play M p (take (L p) (w .intervals p))
+    replay v p =
+        let good = origin-good M p (i .rows p) (i .checkpoints p) (kept .checks v p) in
+        let at = origin M p (i .checkpoints p) .0 in
+        let long : at ≤ min (w .saved p) (L p) = omega (arith, good .0, ap length (rows p), length-take (min (w .saved p) (L p)) (w .intervals p)) in
+        let front : take at (i .rows p) ≡ take at (take (L p) (w .intervals p)) = ap (take at) (rows p) ∙ take-take at (min (w .saved p) (L p)) (w .intervals p) long ∙ sym (take-take at (L p) (w .intervals p) (omega arith)) in
+        ap (λ s. folded (λ s x. M .step p s (x .source) (x .value) .0) s (drop at (take (L p) (w .intervals p)))) (good .1 ∙ ap (play M p) front)
+        ∙ sym (folded-append (λ s x. M .step p s (x .source) (x .value) .0) (M .start p) (take at (take (L p) (w .intervals p))) (drop at (take (L p) (w .intervals p))))
+        ∙ ap (play M p) (take-append-drop at (take (L p) (w .intervals p)))
+
+    restored-played : V → (p : ℕ) → restored M w L i p ≡ play M p (take (L p) (w .intervals p))
+    restored-played v p = go (untouched w L p) refl
+      where
+        go : (b : Bool) → untouched w L p ≡ b → cond b (w .state p) (folded (λ s x. M .step p s (x .source) (x .value) .0) (origin M p (i .checkpoints p) .1) (drop (origin M p (i .checkpoints p) .0) (take (L p) (w .intervals p)))) ≡ play M p (take (L p) (w .intervals p))
+        go false e = replay v p
+        go true e =
+            let both = and-parts (w .up p) (leb (length (w .intervals p)) (L p)) e in
+            ready .states v p (both .0) ∙ ap (play M p) (sym (take-all (L p) (w .intervals p) (leb-true (length (w .intervals p)) (L p) (both .1))))
+
+  next-settled : (m : store.Meaning) → m .alive ≡ true → m .safe ≡ store.count m → Rows-cut (reading (m .records)) → Kept V M N F K (reading (m .records)) → Next V M N given K F (settled M N w L m .1)
+  next-settled m alive safe rows kept = record {
+    later = cut F L;
+    holds = record {
+      family = family-cut;
+      rows = record {
+        fronts = λ p. fronts p (cases-lt p N);
+        whole = λ p u. sym (same-front (L p) p (greatest .inside p (ltb-true p N u) .1));
+        bounded = λ p. omega (arith, ready .bounded p, length-take (L p) (w .intervals p));
+        downs = λ p d. let none = ap length (empty-row p (ltb-false p N d)) in omega (arith, ready .bounded p, length-take (L p) (w .intervals p));
+        present = λ p u. ltb-true p N u;
+        states = λ v p u. cond-true (ltb p N) (restored M w L (reading (m .records)) p) (w .state p) u ∙ restored-played (reading (m .records)) rows kept v p;
+        none = λ d. not-both false d refl;
+        lying = λ d. not-both false d refl;
+      };
+      stored = record {
+        safe = omega (arith, safe);
+        lives = λ a. safe;
+        remembered = λ k a b. subst (λ rs. Kept V M N (cut F L) K (reading rs)) (sym (take-all k (m .records) (omega (arith, safe)))) (kept-cut (reading (m .records)) rows kept);
+      };
+      standing = λ d. alive;
+      read = λ d p. rows p ∙ sym (take-take (min (w .saved p) (L p)) (L p) (w .intervals p) (omega arith));
+    };
+    lasts = lasts;
+  }
+    where
+      fronts : (p : ℕ) → (p < N) ⊎ (N ≤ p) → Front (take (L p) (w .intervals p)) (take (L p) (F p))
+      fronts p (inl h) = subst (λ ys. Front (take (L p) (w .intervals p)) ys) (sym (same-front (L p) p (greatest .inside p h .1))) (front-self (take (L p) (w .intervals p)))
+      fronts p (inr h) = subst (λ xs. Front xs (take (L p) (F p))) (sym (ap (take (L p)) (empty-row p h) ∙ take-all (L p) [] (omega arith))) (front-none (take (L p) (F p)))
