@@ -19,6 +19,7 @@ use Rattle.records.specs.declared.Checkpoint.{Checkpoint}
 use Rattle.records.specs.declared.Content.the-variants as content
 use Rattle.records.specs.declared.Interval.{Interval}
 use Rattle.records.specs.declared.Record.{Record}
+use Rattle.stores.specs.Calls.{room}
 use Rattle.stores.specs.Meaning as store
 use Rattle.lines.specs.Built.{Given, Built, cut}
 use Rattle.lines.specs.Intervals.{Family, play}
@@ -26,9 +27,9 @@ use Rattle.lines.specs.Lines.{Line, Backed, Consistent, Within, Greatest, great
 use Rattle.lines.proofs.Cut.{built-cut}
 use Rattle.lines.proofs.Greatest.{greatest-is-greatest}
 use Rattle.lines.proofs.Indexes.{from-take}
-use Rattle.histories.specs.Effects.{After, line-record, untouched, restored, settled, settling}
+use Rattle.histories.specs.Effects.{After, line-record, finished, written, untouched, restored, settled, settling}
 use Rattle.histories.specs.Reading.{Image, noted, reading, origin}
-use Rattle.histories.specs.Tests.{some-above}
+use Rattle.histories.specs.Tests.{some-above, line-records}
 use Rattle.histories.specs.World.{World}
 use Rattle.histories.proofs.Fronts.{Front, front-self, front-none, front-length, front-take, front-cut}
 use Rattle.histories.proofs.Holds.{Family-holds, Rows-hold, Store-holds, Holds, Lasts, Next}
@@ -182,3 +183,51 @@ module _ (V : Type 0) (M : Meaning) (N : ℕ) (given : Given) (K : Line) (F : Fa
       fronts : (p : ℕ) → (p < N) ⊎ (N ≤ p) → Front (take (L p) (w .intervals p)) (take (L p) (F p))
       fronts p (inl h) = subst (λ ys. Front (take (L p) (w .intervals p)) ys) (sym (same-front (L p) p (greatest .inside p h .1))) (front-self (take (L p) (w .intervals p)))
       fronts p (inr h) = subst (λ xs. Front xs (take (L p) (F p))) (sym (ap (take (L p)) (empty-row p h) ∙ take-all (L p) [] (omega arith))) (front-none (take (L p) (F p)))
+
+  abbrev entries : List ℕ
+  entries = map (λ p. cond (ltb p N) (L p) 0) (counting 0 8)
+
+  entry-is : (p : ℕ) → p < N → getD entries p 0 ≡ L p
+  entry-is p h = getD-map-counting (λ r. cond (ltb r N) (L r) 0) 0 8 p p 0 (omega arith) (omega arith) ∙ cond-true (ltb p N) (L p) 0 (lt-ltb p N h)
+
+  rows-with-line : Rows-cut (noted (reading (w .store .records)) (content.Line entries))
+  rows-with-line p = go (cases-lt p N)
+    where
+      go : (p < N) ⊎ (N ≤ p) → take (getD entries p 0) (reading (w .store .records) .rows p) ≡ take (min (w .saved p) (L p)) (w .intervals p)
+      go (inl h) = ap (λ n. take n (reading (w .store .records) .rows p)) (entry-is p h) ∙ ap (take (L p)) (ready .read p) ∙ take-min (L p) (w .saved p) (w .intervals p)
+      go (inr h) =
+          let none : reading (w .store .records) .rows p ≡ [] = ready .read p ∙ ap (take (w .saved p)) (empty-row p h) ∙ take-all (w .saved p) [] (omega arith) in
+          ap (take (getD entries p 0)) none ∙ take-all (getD entries p 0) [] (omega arith) ∙ sym (ap (take (min (w .saved p) (L p))) (empty-row p h) ∙ take-all (min (w .saved p) (L p)) [] (omega arith))
+
+  line-kept : Kept V M N F K (noted (reading (w .store .records)) (content.Line entries))
+  line-kept = kept-line V M N F K (reading (w .store .records)) entries (λ p h. omega (arith, entry-is p h, under p h)) (ready .kept)
+
+  line-read : reading (w .store .records ++ (line-record N L ∷ [])) ≡ noted (reading (w .store .records)) (content.Line entries)
+  line-read = reading-append (w .store .records) (line-record N L ∷ [])
+
+  parts-kept : (j : ℕ) → Kept V M N F K (reading (w .store .records ++ take j (line-record N L ∷ [])))
+  parts-kept zero = subst (λ rs. Kept V M N F K (reading rs)) (sym (append-nil (w .store .records))) (ready .kept)
+  parts-kept (suc j) = subst (λ rs. Kept V M N F K (reading (w .store .records ++ (line-record N L ∷ rs)))) (sym (take-all j [] (omega arith))) (subst (Kept V M N F K) (sym line-read) line-kept)
+
+  rows-without : some-above N (w .saved) L ≡ false → Rows-cut (reading (w .store .records))
+  rows-without e p = ready .read p ∙ go (cases-lt p N)
+    where
+      go : (p < N) ⊎ (N ≤ p) → take (w .saved p) (w .intervals p) ≡ take (min (w .saved p) (L p)) (w .intervals p)
+      go (inl h) = ap (λ n. take n (w .intervals p)) (omega (arith, below-line N (w .saved) L e p h))
+      go (inr h) = ap (take (w .saved p)) (empty-row p h) ∙ take-all (w .saved p) [] (omega arith) ∙ sym (ap (take (min (w .saved p) (L p))) (empty-row p h) ∙ take-all (min (w .saved p) (L p)) [] (omega arith))
+
+  -- with a line record or without
+  pub next-line : (b : Bool) → some-above N (w .saved) L ≡ b → (b ≡ true → store.count (w .store) + 1 ≤ w .store .capacity) →
+      Next V M N given K F (cond b (finished (written (line-record N L ∷ []) (w .store)) w (settled M N w L)) (settled M N w L (w .store)) .1)
+  next-line false e room = next-settled (w .store) (ready .lives) (ready .safe) (rows-without e) (ready .kept)
+  next-line true e room =
+      next-written V M N K w (ready .family) (line-record N L ∷ []) (settled M N w L) (ready .lives) (ready .safe) (room refl) parts-kept
+      (λ m alive is stored. next-settled m alive (stored .lives alive) (λ p. ap (λ rs. reading rs .rows p) is ∙ ap (λ i. i .rows p) line-read ∙ rows-with-line p)
+        (subst (λ rs. Kept V M N F K (reading rs)) (sym is) (subst (Kept V M N F K) (sym line-read) line-kept)))
+
+pub next-settling : (V : Type 0) (M : Meaning) (N : ℕ) (given : Given) (K : Line) (F : Family) (w : World) (c : Line) → N ≤ 8 → Ready V M N given K F w c →
+    ltb (room (w .store)) (line-records N (w .saved) (greatest-line N (w .intervals) c)) ≡ false → Next V M N given K F (settling M N c w .1)
+next-settling V M N given K F w c few ready enough =
+    next-line V M N given K F w c (greatest-line N (w .intervals) c) few ready (greatest-is-greatest N (w .intervals) c) (some-above N (w .saved) (greatest-line N (w .intervals) c)) refl
+    (λ e. let one : line-records N (w .saved) (greatest-line N (w .intervals) c) ≡ 1 = cond-true (some-above N (w .saved) (greatest-line N (w .intervals) c)) 1 0 e in
+      omega (arith, ltb-false (room (w .store)) (line-records N (w .saved) (greatest-line N (w .intervals) c)) enough))
