@@ -5,3 +5,5 @@ mod Remembered
 mod Holds
 mod Steps
 mod Settling
+mod Waking
+mod Calls

@@ -248,11 +248,11 @@ module _ (V : Type 0) (M : Meaning) (N : ℕ) (K : Line) where
     row-others : (r : ℕ) → (r ≡ p → ⊥) → reading-on (reading (w .store .records)) (map interval-record (unsaved w p)) .rows r ≡ reading (w .store .records) .rows r
     row-others = rows-others (reading (w .store .records)) p (unsaved w p) (subst (All (λ x. x .process ≡ p)) (take-all (length (unsaved w p)) (unsaved w p) (omega arith)) (names (length (unsaved w p))))
 
-    pub next-saving : store.count (w .store) + length (unsaved w p) ≤ w .store .capacity → (xs : List Interval) → xs ≡ unsaved w p → Next V M N given K F (saving p w xs .1)
+    pub next-saving : (0 < length (unsaved w p) → store.count (w .store) + length (unsaved w p) ≤ w .store .capacity) → (xs : List Interval) → xs ≡ unsaved w p → Next V M N given K F (saving p w xs .1)
     next-saving room [] e = next-same h (h .family .built)
     next-saving room (x ∷ xs) e =
         subst (λ ys. Next V M N given K F (finished (written (map interval-record ys) (w .store)) w after .1)) (sym e)
-        (next-written w (h .family) (map interval-record (unsaved w p)) after lives all-safe (simp length-map room) intervals-kept
+        (next-written w (h .family) (map interval-record (unsaved w p)) after lives all-safe (let some : 0 < length (unsaved w p) = omega (arith, ap length e) in simp length-map (room some)) intervals-kept
           (λ m alive is stored. next-saved m alive stored (ap (λ rs. reading rs .rows p) is ∙ ap (λ i. i .rows p) (reading-append (w .store .records) _) ∙ row-read)
             (λ r n. ap (λ rs. reading rs .rows r) is ∙ ap (λ i. i .rows r) (reading-append (w .store .records) _) ∙ row-others r n)))
       where
