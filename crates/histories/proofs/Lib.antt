@@ -7,3 +7,4 @@ mod Steps
 mod Settling
 mod Waking
 mod Calls
+mod Histories

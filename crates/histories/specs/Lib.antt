@@ -7,3 +7,4 @@ pub mod Rules
 pub mod Scripts
 pub mod Ledger
 pub mod History
+pub mod Theorem
