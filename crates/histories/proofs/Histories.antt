@@ -14,7 +14,7 @@ use Rattle.programs.specs.Program.{Meaning, zeros}
 use Rattle.stores.specs.Meaning as store
 use Rattle.lines.specs.Built.{Given, Gives, Built, begins, input, delivery}
 use Rattle.lines.specs.Intervals.{Family}
-use Rattle.lines.specs.Lines.{Line, Backed, greatest-line}
+use Rattle.lines.specs.Lines.{Line, Backed, Consistent, Within, Greatest, greatest-line}
 use Rattle.lines.proofs.Greatest.{greatest-is-greatest}
 use Rattle.histories.specs.Calls as calls
 use Rattle.histories.specs.Calls.{Call, Answer, accepted, refused}
@@ -28,7 +28,7 @@ use Rattle.histories.specs.World.{World, fresh}
 use Rattle.histories.proofs.Calls.{Fed, step}
 use Rattle.histories.proofs.Fronts.{front-none, front-take}
 use Rattle.histories.proofs.Holds.{Family-holds, Holds, Lasts, Next}
-use Rattle.histories.proofs.Remembered.{Kept}
+use Rattle.histories.proofs.Remembered.{Kept, kept-whole}
 use Rattle.histories.proofs.Steps.{not-both}
 
 pub built-wider : {M : Meaning} {N : ℕ} {given wider : Given} {F : Family} → ((p n v : ℕ) → Gives given p n v → Gives wider p n v) → Built M N given F → Built M N wider F
@@ -103,3 +103,54 @@ module _ (V : Type 0) (M : Meaning) (N : ℕ) (few : N ≤ 8) where
     standing = λ d. first .1 .2;
     read = λ d p. ap (λ rs. reading rs .rows p) (first .1 .0);
   })
+
+  pub holds-at : {first : World} {es : List Event} {w : World} → First M N first → History M N first es w → (F : Family) × Holds V M N (gave es) (λ p. 0) w F
+  holds-at {first} f history = let next = follow-all (λ p. 0) [] (first-holds first f) history in (next .later, next .holds)
+
+  -- while the host stands, its committed line can be the line that lasts
+  rewitness : (K : Line) {given : Given} {F : Family} {w : World} → Holds V M N given K w F → w .dark ≡ false → Holds V M N given (committed N w) w F
+  rewitness K {given} {F} {w} h awake = record {
+    family = record { short = h .family .short; named = h .family .named; indexed = h .family .indexed; idle = h .family .idle; built = h .family .built;
+      consistent = λ p k. subst (All (Backed N (committed N w))) (sym (front-take (committed N w p) (w .intervals p) (F p) (h .rows .fronts p) (best .inside p k .1))) (best .consistent p k) };
+    rows = h .rows;
+    stored = record {
+      safe = h .stored .safe;
+      lives = h .stored .lives;
+      remembered = λ k a b. let kept = h .stored .remembered k a b in record {
+        fronts = kept .fronts;
+        above = λ p l. subst (λ rs. committed N w p ≤ length (reading rs .rows p)) (sym (take-all k (w .store .records) (omega (arith, h .stored .lives (h .standing awake)))))
+            (omega (arith, best .inside p l .0, best .inside p l .1, ap length (h .read awake p), length-take (w .saved p) (w .intervals p)));
+        checks = kept .checks;
+      };
+    };
+    standing = h .standing;
+    read = h .read;
+  }
+    where
+      best : Greatest N (w .intervals) (w .saved) (committed N w)
+      best = greatest-is-greatest N (w .intervals) (w .saved)
+
+  -- a line that lasts is within what is saved
+  lasting-saved : (K : Line) {given : Given} {F : Family} {w : World} → Holds V M N given K w F → w .dark ≡ false → (p : ℕ) → p < N → K p ≤ w .saved p
+  lasting-saved K {given} {F} {w} h awake p l =
+      let kept = kept-whole V M N F K (w .store .records) (w .store .safe) (h .stored .safe) (h .stored .remembered) in
+      omega (arith, kept .above p l, ap length (h .read awake p), length-take (w .saved p) (w .intervals p))
+
+  -- the committed line never falls, and the intervals up to it stay
+  pub lasts-on : (before : List Event) {K : Line} {F : Family} {w : World} → Holds V M N (gave before) K w F → w .dark ≡ false → {es : List Event} {v : World} → History M N w es v → v .dark ≡ false →
+      (p : ℕ) → p < N → (committed N w p ≤ committed N v p) × (take (committed N w p) (v .intervals p) ≡ take (committed N w p) (w .intervals p))
+  lasts-on before {K} {F} {w} h awake {es} {v} history later p l =
+      (greatest-is-greatest N (v .intervals) (v .saved) .highest (committed N w) consistent within p l, same p l)
+    where
+      low : (q : ℕ) → q < N → committed N w q ≤ v .saved q
+      low = lasting-saved (committed N w) (follow-all (committed N w) before (rewitness K h awake) history .holds) later
+      front : (q : ℕ) → q < N → take (committed N w q) (follow-all (committed N w) before (rewitness K h awake) history .later q) ≡ take (committed N w q) (v .intervals q)
+      front q k = front-take (committed N w q) (v .intervals q) _ (follow-all (committed N w) before (rewitness K h awake) history .holds .rows .fronts q)
+          (omega (arith, low q k, follow-all (committed N w) before (rewitness K h awake) history .holds .rows .bounded q))
+      consistent : Consistent N (v .intervals) (committed N w)
+      consistent q k = subst (All (Backed N (committed N w))) (front q k) (follow-all (committed N w) before (rewitness K h awake) history .holds .family .consistent q k)
+      within : Within N (v .intervals) (v .saved) (committed N w)
+      within q k = (low q k, omega (arith, low q k, follow-all (committed N w) before (rewitness K h awake) history .holds .rows .bounded q))
+      same : (q : ℕ) → q < N → take (committed N w q) (v .intervals q) ≡ take (committed N w q) (w .intervals q)
+      same q k = sym (front q k) ∙ follow-all (committed N w) before (rewitness K h awake) history .lasts q k
+          ∙ front-take (committed N w q) (w .intervals q) (F q) (h .rows .fronts q) (greatest-is-greatest N (w .intervals) (w .saved) .inside q k .1)
