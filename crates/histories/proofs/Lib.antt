@@ -8,3 +8,5 @@ mod Settling
 mod Waking
 mod Calls
 mod Histories
+mod Shown
+mod Ledgers
