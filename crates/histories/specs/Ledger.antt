@@ -60,7 +60,7 @@ left-in l p = cond (l .up p) (length (l .intervals p)) (l .saved p)
 abbrev pub line-in : ℕ → Ledger → Line
 line-in N l = greatest-line N (l .intervals) (left-in l)
 
-abbrev line-writes : ℕ → Ledger → List Record
+abbrev pub line-writes : ℕ → Ledger → List Record
 line-writes N l = cond (some-above N (l .saved) (line-in N l)) (line-record N (line-in N l) ∷ []) []
 
 abbrev unsaved-records : Ledger → ℕ → List Record
@@ -82,10 +82,10 @@ writes M N (look p) l = []
 abbrev with-rows : Family → Line → (ℕ → Bool) → Ledger → Ledger
 with-rows F saved up l = record { intervals = F; saved = saved; up = up; records = l .records; safe = l .safe }
 
-abbrev grown : ℕ → Interval → Ledger → Ledger
+abbrev pub grown : ℕ → Interval → Ledger → Ledger
 grown p x l = with-rows (at (l .intervals) p (l .intervals p ++ (x ∷ []))) (l .saved) (l .up) l
 
-abbrev taken-first : Meaning → ℕ → ℕ → ℕ → List Message → Ledger → Ledger
+abbrev pub taken-first : Meaning → ℕ → ℕ → ℕ → List Message → Ledger → Ledger
 taken-first M N q p [] l = l
 taken-first M N q p (m ∷ ms) l = grown p (by-delivery M N (play M p (l .intervals p)) (l .intervals) q p m) l
 
@@ -93,7 +93,7 @@ abbrev saved-now : ℕ → Ledger → Ledger
 saved-now p l = with-rows (l .intervals) (at (l .saved) p (length (l .intervals p))) (l .up) l
 
 -- all above the greatest line within left is gone, and all are up
-abbrev cut-back : ℕ → Ledger → Ledger
+abbrev pub cut-back : ℕ → Ledger → Ledger
 cut-back N l = with-rows (cut (l .intervals) (line-in N l)) (λ p. min (l .saved p) (line-in N l p)) (λ p. ltb p N) l
 
 -- what an accepted call makes of the rows
