@@ -16,6 +16,7 @@ use Rattle.records.specs.declared.Interval.{Interval}
 use Rattle.records.specs.declared.Record.{Record}
 use Rattle.stores.specs.Calls.{Outcome, revived, unsafe-count, room, all-safe, with-power, with-records}
 use Rattle.stores.specs.Meaning as store
+use Rattle.lines.specs.Built.{Given}
 use Rattle.lines.specs.Intervals.{Family, Message, play, waiting, by-input, by-delivery}
 use Rattle.lines.specs.Lines.{Line, greatest-line}
 use Rattle.histories.specs.Calls as calls
@@ -27,6 +28,7 @@ use Rattle.histories.specs.Rules.{tested, effect, rule, restarting}
 use Rattle.histories.specs.Tests.{Test, tests, unsaved, left, some-above, line-records, no-room}
 use Rattle.histories.specs.Theorem.{entered}
 use Rattle.histories.specs.World.{World, at, darkened}
+use Rattle.histories.proofs.Holds.{Holds}
 use Rattle.histories.proofs.Images.{at-same, at-other}
 use Rattle.histories.proofs.Writing.{Wrote, done, died, wrote}
 
@@ -110,3 +112,94 @@ module _ (M : Meaning) (N kept : ℕ) (w : World) where
     where
       ws : List Record
       ws = map interval-record (unsaved w p) ++ (checkpoint-record p (length (w .intervals p)) (w .state p) ∷ [])
+
+-- a call whose writes and turns are those of a recovery on b
+module _ (M : Meaning) (N kept : ℕ) (w : World) (c : Call) (b : World) (g : grounds N kept c (entered w) ≡ entered b) (alive : b .store .alive ≡ true)
+    (same-writes : writes M N c (entered b) ≡ line-writes N (entered b)) (same-turns : turns M N c (entered b) ≡ cut-back N (entered b)) where
+  accepts : (ns : List ℕ) → after-answer M N kept c (accepted ns) (entered w) ≡ synced-with (line-writes N (entered b)) (cut-back N (entered b))
+  accepts ns = ap (λ l. synced-with (writes M N c l) (turns M N c l)) g ∙ ap (λ rs. synced-with rs (turns M N c (entered b))) same-writes ∙ ap (synced-with (line-writes N (entered b))) same-turns
+
+  agree-settling : ltb (room (b .store)) (line-records N (b .saved) (line-in N (entered b))) ≡ false → Agree M N kept w c (settling M N (left-in (entered b)) b)
+  agree-settling enough = go (some-above N (b .saved) (line-in N (entered b))) refl
+    where
+      go : (t : Bool) → some-above N (b .saved) (line-in N (entered b)) ≡ t →
+          Agree M N kept w c (cond t (finished (written (line-record N (line-in N (entered b)) ∷ []) (b .store)) b (settled M N b (line-in N (entered b)))) (settled M N b (line-in N (entered b)) (b .store)))
+      go false e = accepts [] ∙ ap (λ t. synced-with (cond t (line-record N (line-in N (entered b)) ∷ []) []) (cut-back N (entered b))) e
+      go true e =
+          let writes-line : line-writes N (entered b) ≡ line-record N (line-in N (entered b)) ∷ [] = cond-true (some-above N (b .saved) (line-in N (entered b))) (line-record N (line-in N (entered b)) ∷ []) [] e in
+          let one : line-records N (b .saved) (line-in N (entered b)) ≡ 1 = cond-true (some-above N (b .saved) (line-in N (entered b))) 1 0 e in
+          agree-finished M N kept w c b g (line-record N (line-in N (entered b)) ∷ []) (same-writes ∙ writes-line) alive (omega (arith, ltb-false (room (b .store)) (line-records N (b .saved) (line-in N (entered b))) enough)) (settled M N b (line-in N (entered b)))
+          (λ m is s. accepts [] ∙ ap (λ rs. synced-with rs (cut-back N (entered b))) writes-line
+            ∙ entered-done (cut-back N (entered b) .intervals) (cut-back N (entered b) .saved) (cut-back N (entered b) .up) m (b .store .records ++ (line-record N (line-in N (entered b)) ∷ [])) is s)
+
+-- what a restart finds is the host as woken
+found-woken : (N kept : ℕ) (w : World) → w .store .safe ≤ store.count (w .store) → (w .store .alive ≡ true → w .store .safe ≡ store.count (w .store)) → found N kept (entered w) ≡ entered (woken N kept w)
+found-woken N kept w low lives =
+    ap (λ rs. onto rs (length rs)) (sym records) ∙ ap (onto (revived kept (w .store) .1 .records)) (sym safe)
+  where
+    onto : List Record → ℕ → Ledger
+    onto rs n = record {
+      intervals = λ p. cond (ltb p N) (take 96 (reading rs .rows p)) [];
+      saved = λ p. length (cond (ltb p N) (take 96 (reading rs .rows p)) []);
+      up = λ p. false;
+      records = rs;
+      safe = n;
+    }
+    whole : (b : Bool) → w .store .alive ≡ b → cond {A = Outcome ℕ} b (Err 43, w .store) (Ok kept, all-safe (with-power (record { alive = true; fuse = w .store .fuse }) (with-records (take (w .store .safe + kept) (w .store .records)) (w .store)))) .1 .records ≡ take (w .store .safe + kept) (w .store .records)
+    whole true e = sym (take-all (w .store .safe + kept) (w .store .records) (omega (arith, lives e)))
+    whole false e = refl
+    records : revived kept (w .store) .1 .records ≡ take (w .store .safe + kept) (w .store .records)
+    records = whole (w .store .alive) refl
+    all : (b : Bool) → w .store .alive ≡ b → cond {A = Outcome ℕ} b (Err 43, w .store) (Ok kept, all-safe (with-power (record { alive = true; fuse = w .store .fuse }) (with-records (take (w .store .safe + kept) (w .store .records)) (w .store)))) .1 .safe
+        ≡ length (cond {A = Outcome ℕ} b (Err 43, w .store) (Ok kept, all-safe (with-power (record { alive = true; fuse = w .store .fuse }) (with-records (take (w .store .safe + kept) (w .store .records)) (w .store)))) .1 .records)
+    all true e = lives e
+    all false e = refl
+    safe : revived kept (w .store) .1 .safe ≡ length (revived kept (w .store) .1 .records)
+    safe = all (w .store .alive) refl
+
+revived-alive : (kept : ℕ) (m : store.Meaning) → revived kept m .1 .alive ≡ true
+revived-alive kept m = go (m .alive) refl
+  where
+    go : (b : Bool) → m .alive ≡ b → cond {A = Outcome ℕ} b (Err 43, m) (Ok kept, all-safe (with-power (record { alive = true; fuse = m .fuse }) (with-records (take (m .safe + kept) (m .records)) m))) .1 .alive ≡ true
+    go true e = e
+    go false e = refl
+
+agree-restarting : (M : Meaning) (N kept j : ℕ) (w : World) → w .store .safe ≤ store.count (w .store) → (w .store .alive ≡ true → w .store .safe ≡ store.count (w .store)) → Agree M N kept w (calls.restart j) (restarting M N (woken N kept w))
+agree-restarting M N kept j w low lives =
+    tested-of (Agree M N kept w (calls.restart j)) (no-room (woken N kept w) (line-records N (woken N kept w .saved) (greatest-line N (woken N kept w .intervals) (woken N kept w .saved))) ∷ []) (darkened (woken N kept w .store) (woken N kept w))
+    (settling M N (woken N kept w .saved) (woken N kept w))
+    (ap (λ l. lost 0 [] l) is ∙ ap (λ rs. paged (λ p. []) (λ p. 0) (λ p. false) rs (woken N kept w .store .safe)) (append-nil (woken N kept w .store .records)), tt)
+    (λ t. agree-settling M N kept w (calls.restart j) (woken N kept w) is (revived-alive kept (w .store)) refl refl (t .0))
+  where
+    is : found N kept (entered w) ≡ entered (woken N kept w)
+    is = found-woken N kept w low lives
+
+-- every call
+module _ (M : Meaning) (N : ℕ) {given : Given} {K : Line} {F : Family} {w : World} (h : Holds (Unit {0}) M N given K w F) (kept : ℕ) where
+  state-is : (p : ℕ) → w .up p ≡ true → w .state p ≡ play M p (w .intervals p)
+  state-is p up = h .rows .states tt p up
+
+  alive-is : w .dark ≡ false → w .store .alive ≡ true
+  alive-is awake = h .standing awake
+
+  has-room : (n : ℕ) → ltb (room (w .store)) n ≡ false → 0 < n → store.count (w .store) + n ≤ w .store .capacity
+  has-room n e some = omega (arith, ltb-false (room (w .store)) n e)
+
+  by-tests : (c : Call) → All (λ t. Agree M N kept w c (refused (t .1), w)) (tests N w c) → (All (λ t. t .0 ≡ false) (tests N w c) → Agree M N kept w c (effect M N kept w c)) → Agree M N kept w c (rule M N kept w c)
+  by-tests c stays goes = tested-of (Agree M N kept w c) (tests N w c) w (effect M N kept w c) stays goes
+
+  pub agree : (c : Call) → Agree M N kept w c (rule M N kept w c)
+  agree (calls.input p n v) = by-tests (calls.input p n v) (refl, (refl, (refl, (refl, (refl, (refl, (refl, tt)))))))
+      (λ t. ap (λ s. entered (began M p (by-input M N p s (w .intervals p) v) w .1)) (sym (state-is p (not-false (w .up p) (t .1 .1 .1 .0)))))
+  agree (calls.deliver q p) = by-tests (calls.deliver q p) (refl, (refl, (refl, (refl, (refl, (refl, tt))))))
+      (λ t. agree-taking M N kept w q p (state-is p (not-false (w .up p) (t .1 .1 .1 .0))) (waiting (w .intervals) q p) refl)
+  agree (calls.save p) = by-tests (calls.save p) (refl, (refl, (refl, (refl, tt))))
+      (λ t. agree-saving M N kept w p (h .rows .bounded p) (alive-is (t .1 .0)) (has-room (length (unsaved w p)) (t .1 .1 .1 .0)) (unsaved w p) refl)
+  agree (calls.mark p) = by-tests (calls.mark p) (refl, (refl, (refl, (refl, tt))))
+      (λ t. agree-marking M N kept w p (state-is p (not-false (w .up p) (t .1 .1 .0))) (alive-is (t .1 .0)) (has-room (length (unsaved w p) + 1) (t .1 .1 .1 .0) (omega arith)))
+  agree (calls.crash p) = by-tests (calls.crash p) (refl, (refl, (refl, tt))) (λ t. refl)
+  agree calls.recover = by-tests calls.recover (refl, (refl, (refl, tt))) (λ t. agree-settling M N kept w calls.recover w refl (alive-is (t .0)) refl refl (t .1 .1 .0))
+  agree (calls.fail k) = by-tests (calls.fail k) (refl, tt) (λ t. refl)
+  agree (calls.restart j) = by-tests (calls.restart j) (refl, (refl, tt)) (λ t. agree-restarting M N kept j w (h .stored .safe) (h .stored .lives))
+  agree (calls.show p n) = by-tests (calls.show p n) (refl, (refl, (refl, (refl, tt)))) (λ t. refl)
+  agree (calls.look p) = by-tests (calls.look p) (refl, (refl, (refl, tt))) (λ t. refl)
