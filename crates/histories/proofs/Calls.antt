@@ -15,7 +15,7 @@ use Rattle.programs.specs.Program.{Meaning}
 use Rattle.records.specs.declared.Interval.{Interval}
 use Rattle.stores.specs.Calls.{unsafe-count, room}
 use Rattle.stores.specs.Meaning as store
-use Rattle.lines.specs.Built.{Given, Gives, Grows, Built, begins, input, delivery} 
+use Rattle.lines.specs.Built.{Given, Gives, Grows, Built, begins, input, delivery}
 use Rattle.lines.specs.Intervals.{Family, Message, play, channel, taken, waiting, next-input, vector-after, merged, begun, by-input, by-delivery}
 use Rattle.lines.specs.Lines.{Line, greatest-line}
 use Rattle.lines.proofs.Indexes.{From, from-take, sent-early, channel-append}
@@ -66,7 +66,7 @@ module _ (V : Type 0) (M : Meaning) (N : ℕ) (few : N ≤ 8) (K : Line) {given 
   input-built p v up gives vouched =
       let whole = h .rows .whole p up in
       let same : by-input M N p (w .state p) (w .intervals p) v ≡ by-input M N p (play M p (F p)) (F p) v
-            = ap (λ s. by-input M N p s (w .intervals p) v) (h .rows .states vouched p up ∙ ap (play M p) whole) ∙ ap (λ xs. by-input M N p (play M p (F p)) xs v) whole in
+      = ap (λ s. by-input M N p s (w .intervals p) v) (h .rows .states vouched p up ∙ ap (play M p) whole) ∙ ap (λ xs. by-input M N p (play M p (F p)) xs v) whole in
       subst (λ x. Built M N given (at F p (F p ++ (x ∷ [])))) (sym same)
       (input p v (h .family .built vouched) (h .rows .present p up) (subst (λ xs. Gives given p (next-input xs) v) whole gives) (grows-at p (by-input M N p (play M p (F p)) (F p) v)))
 
@@ -91,9 +91,9 @@ module _ (V : Type 0) (M : Meaning) (N : ℕ) (few : N ≤ 8) (K : Line) {given 
       let next = waits q p m ms up e in
       let heard : take (m .sent-at) (w .intervals q) ≡ take (m .sent-at) (F q) = sym (front-take (m .sent-at) (w .intervals q) (F q) (h .rows .fronts q) (sent-within q p m ms e)) in
       let same : by-delivery M N (w .state p) (w .intervals) q p m ≡ by-delivery M N (play M p (F p)) F q p m
-            = ap (λ s. by-delivery M N s (w .intervals) q p m) (h .rows .states vouched p up ∙ ap (play M p) whole)
-              ∙ ap (λ ys. begun M N p (play M p (F p)) (w .intervals p) q m (merged (vector-after (w .intervals p)) (vector-after ys))) heard
-              ∙ ap (λ xs. begun M N p (play M p (F p)) xs q m (merged (vector-after xs) (vector-after (take (m .sent-at) (F q))))) whole in
+      = ap (λ s. by-delivery M N s (w .intervals) q p m) (h .rows .states vouched p up ∙ ap (play M p) whole)
+      ∙ ap (λ ys. begun M N p (play M p (F p)) (w .intervals p) q m (merged (vector-after (w .intervals p)) (vector-after ys))) heard
+      ∙ ap (λ xs. begun M N p (play M p (F p)) xs q m (merged (vector-after xs) (vector-after (take (m .sent-at) (F q))))) whole in
       subst (λ x. Built M N given (at F p (F p ++ (x ∷ [])))) (sym same)
       (delivery q p m (next .0) (h .family .built vouched) sender (h .rows .present p up) (next .1) (grows-at p (by-delivery M N (play M p (F p)) F q p m)))
 
@@ -129,7 +129,7 @@ module _ (V : Type 0) (M : Meaning) (N : ℕ) (few : N ≤ 8) (K : Line) {given 
       let up = not-false (w .up p) (t .1 .1 .1 .0) in
       let number : n ≡ next-input (w .intervals p) = omega (arith, ltb-false n (next-input (w .intervals p)) (t .1 .1 .1 .1 .0), ltb-false (next-input (w .intervals p)) n (t .1 .1 .1 .1 .1 .0)) in
       next-began V M N K h (t .1 .1 .0) p up (by-input M N p (w .state p) (w .intervals p) v) (leb-false 96 (length (w .intervals p)) (t .1 .1 .1 .1 .1 .1 .0)) refl refl
-        (input-built p v up (subst (λ k. Gives given p k v) number gives)))
+      (input-built p v up (subst (λ k. Gives given p k v) number gives)))
   step kept allowed (calls.deliver q p) = by-tests kept (calls.deliver q p) (λ t f.
       next-taking q p (leb-false N q (t .0)) (t .1 .1 .0) (not-false (w .up p) (t .1 .1 .1 .0)) (leb-false 96 (length (w .intervals p)) (t .1 .1 .1 .1 .1 .0)) (waiting (w .intervals) q p) refl)
   step kept allowed (calls.save p) = by-tests kept (calls.save p) (λ t f.

@@ -92,13 +92,21 @@ module _ (V : Type 0) (M : Meaning) (N : ℕ) (few : N ≤ 8) where
   first-holds : (w : World) → First M N w → Holds V M N (gave []) (λ p. 0) w (λ p. [])
   first-holds w first = subst (λ v. Holds V M N (gave []) (λ p. 0) v (λ p. [])) (sym (first .1 .3)) (record {
     family = record { short = λ p. omega arith; named = λ p. tt; indexed = λ p. tt; idle = λ p h. refl; consistent = λ p h. tt; built = λ v. begins (λ p. refl) };
-    rows = record { fronts = λ p. front-none []; whole = λ p u. refl; bounded = λ p. omega arith; downs = λ p d. refl; present = λ p u. ltb-true p N u;
-      states = λ v p u. cond-true (ltb p N) (M .start p) zeros u; none = λ d p. refl; lying = λ d. not-both false d refl };
+    rows = record {
+      fronts = λ p. front-none [];
+      whole = λ p u. refl;
+      bounded = λ p. omega arith;
+      downs = λ p d. refl;
+      present = λ p u. ltb-true p N u;
+      states = λ v p u. cond-true (ltb p N) (M .start p) zeros u;
+      none = λ d p. refl;
+      lying = λ d. not-both false d refl;
+    };
     stored = record {
       safe = omega (arith, first .1 .1);
       lives = λ a. first .1 .1 ∙ sym (ap length (first .1 .0));
       remembered = λ k a b. subst (λ rs. Kept V M N (λ p. []) (λ p. 0) (reading (take k rs))) (sym (first .1 .0)) (subst (λ rs. Kept V M N (λ p. []) (λ p. 0) (reading rs)) (sym (take-all k [] (omega arith)))
-        (record { fronts = λ p. front-none []; above = λ p h. omega arith; checks = λ v p. tt }));
+          (record { fronts = λ p. front-none []; above = λ p h. omega arith; checks = λ v p. tt }));
     };
     standing = λ d. first .1 .2;
     read = λ d p. ap (λ rs. reading rs .rows p) (first .1 .0);
@@ -110,8 +118,14 @@ module _ (V : Type 0) (M : Meaning) (N : ℕ) (few : N ≤ 8) where
   -- while the host stands, its committed line can be the line that lasts
   rewitness : (K : Line) {given : Given} {F : Family} {w : World} → Holds V M N given K w F → w .dark ≡ false → Holds V M N given (committed N w) w F
   rewitness K {given} {F} {w} h awake = record {
-    family = record { short = h .family .short; named = h .family .named; indexed = h .family .indexed; idle = h .family .idle; built = h .family .built;
-      consistent = λ p k. subst (All (Backed N (committed N w))) (sym (front-take (committed N w p) (w .intervals p) (F p) (h .rows .fronts p) (best .inside p k .1))) (best .consistent p k) };
+    family = record {
+      short = h .family .short;
+      named = h .family .named;
+      indexed = h .family .indexed;
+      idle = h .family .idle;
+      built = h .family .built;
+      consistent = λ p k. subst (All (Backed N (committed N w))) (sym (front-take (committed N w p) (w .intervals p) (F p) (h .rows .fronts p) (best .inside p k .1))) (best .consistent p k);
+    };
     rows = h .rows;
     stored = record {
       safe = h .stored .safe;
@@ -144,13 +158,17 @@ module _ (V : Type 0) (M : Meaning) (N : ℕ) (few : N ≤ 8) where
     where
       low : (q : ℕ) → q < N → committed N w q ≤ v .saved q
       low = lasting-saved (committed N w) (follow-all (committed N w) before (rewitness K h awake) history .holds) later
+
       front : (q : ℕ) → q < N → take (committed N w q) (follow-all (committed N w) before (rewitness K h awake) history .later q) ≡ take (committed N w q) (v .intervals q)
       front q k = front-take (committed N w q) (v .intervals q) _ (follow-all (committed N w) before (rewitness K h awake) history .holds .rows .fronts q)
           (omega (arith, low q k, follow-all (committed N w) before (rewitness K h awake) history .holds .rows .bounded q))
+
       consistent : Consistent N (v .intervals) (committed N w)
       consistent q k = subst (All (Backed N (committed N w))) (front q k) (follow-all (committed N w) before (rewitness K h awake) history .holds .family .consistent q k)
+
       within : Within N (v .intervals) (v .saved) (committed N w)
       within q k = (low q k, omega (arith, low q k, follow-all (committed N w) before (rewitness K h awake) history .holds .rows .bounded q))
+
       same : (q : ℕ) → q < N → take (committed N w q) (v .intervals q) ≡ take (committed N w q) (w .intervals q)
       same q k = sym (front q k) ∙ follow-all (committed N w) before (rewitness K h awake) history .lasts q k
           ∙ front-take (committed N w q) (w .intervals q) (F q) (h .rows .fronts q) (greatest-is-greatest N (w .intervals) (w .saved) .inside q k .1)

@@ -100,15 +100,15 @@ module _ (M : Meaning) (N kept : ℕ) (w : World) where
   agree-saving p low alive room (x ∷ xs) e =
       subst (λ ys. Agree M N kept w (calls.save p) (finished (written (map interval-record ys) (w .store)) w (λ m. (accepted (length (w .intervals p) ∷ []), all-saved p w m)))) e
       (agree-finished M N kept w (calls.save p) w refl (map interval-record (unsaved w p)) refl alive (simp length-map (room (omega (arith, ap length e)))) _
-        (λ m is s. synced-some (map interval-record (unsaved w p)) (turns M N (calls.save p) (entered w)) (simp length-map (omega (arith, ap length e)))
-          ∙ entered-done (w .intervals) (at (w .saved) p (length (w .intervals p))) (w .up) m (w .store .records ++ map interval-record (unsaved w p)) is s))
+      (λ m is s. synced-some (map interval-record (unsaved w p)) (turns M N (calls.save p) (entered w)) (simp length-map (omega (arith, ap length e)))
+      ∙ entered-done (w .intervals) (at (w .saved) p (length (w .intervals p))) (w .up) m (w .store .records ++ map interval-record (unsaved w p)) is s))
 
   agree-marking : (p : ℕ) → w .state p ≡ play M p (w .intervals p) → w .store .alive ≡ true → store.count (w .store) + (length (unsaved w p) + 1) ≤ w .store .capacity → Agree M N kept w (calls.mark p) (marking p w)
   agree-marking p state alive room =
       agree-finished M N kept w (calls.mark p) w refl ws (ap (λ s. map interval-record (unsaved w p) ++ (checkpoint-record p (length (w .intervals p)) s ∷ [])) (sym state)) alive (simp (length-push, length-map) room) _
       (λ m is s. ap (λ t. synced-with (map interval-record (unsaved w p) ++ (checkpoint-record p (length (w .intervals p)) t ∷ [])) (turns M N (calls.mark p) (entered w))) (sym state)
-        ∙ synced-some ws (turns M N (calls.mark p) (entered w)) (simp length-push (omega arith))
-        ∙ entered-done (w .intervals) (at (w .saved) p (length (w .intervals p))) (w .up) m (w .store .records ++ ws) is s)
+      ∙ synced-some ws (turns M N (calls.mark p) (entered w)) (simp length-push (omega arith))
+      ∙ entered-done (w .intervals) (at (w .saved) p (length (w .intervals p))) (w .up) m (w .store .records ++ ws) is s)
     where
       ws : List Record
       ws = map interval-record (unsaved w p) ++ (checkpoint-record p (length (w .intervals p)) (w .state p) ∷ [])
@@ -130,10 +130,10 @@ module _ (M : Meaning) (N kept : ℕ) (w : World) (c : Call) (b : World) (g : gr
           let one : line-records N (b .saved) (line-in N (entered b)) ≡ 1 = cond-true (some-above N (b .saved) (line-in N (entered b))) 1 0 e in
           agree-finished M N kept w c b g (line-record N (line-in N (entered b)) ∷ []) (same-writes ∙ writes-line) alive (omega (arith, ltb-false (room (b .store)) (line-records N (b .saved) (line-in N (entered b))) enough)) (settled M N b (line-in N (entered b)))
           (λ m is s. accepts [] ∙ ap (λ rs. synced-with rs (cut-back N (entered b))) writes-line
-            ∙ entered-done (cut-back N (entered b) .intervals) (cut-back N (entered b) .saved) (cut-back N (entered b) .up) m (b .store .records ++ (line-record N (line-in N (entered b)) ∷ [])) is s)
+          ∙ entered-done (cut-back N (entered b) .intervals) (cut-back N (entered b) .saved) (cut-back N (entered b) .up) m (b .store .records ++ (line-record N (line-in N (entered b)) ∷ [])) is s)
 
 -- what a restart finds is the host as woken
-found-woken : (N kept : ℕ) (w : World) → w .store .safe ≤ store.count (w .store) → (w .store .alive ≡ true → w .store .safe ≡ store.count (w .store)) → found N kept (entered w) ≡ entered (woken N kept w)
+pub found-woken : (N kept : ℕ) (w : World) → w .store .safe ≤ store.count (w .store) → (w .store .alive ≡ true → w .store .safe ≡ store.count (w .store)) → found N kept (entered w) ≡ entered (woken N kept w)
 found-woken N kept w low lives =
     ap (λ rs. onto rs (length rs)) (sym records) ∙ ap (onto (revived kept (w .store) .1 .records)) (sym safe)
   where
@@ -145,15 +145,19 @@ found-woken N kept w low lives =
       records = rs;
       safe = n;
     }
+
     whole : (b : Bool) → w .store .alive ≡ b → cond {A = Outcome ℕ} b (Err 43, w .store) (Ok kept, all-safe (with-power (record { alive = true; fuse = w .store .fuse }) (with-records (take (w .store .safe + kept) (w .store .records)) (w .store)))) .1 .records ≡ take (w .store .safe + kept) (w .store .records)
     whole true e = sym (take-all (w .store .safe + kept) (w .store .records) (omega (arith, lives e)))
     whole false e = refl
+
     records : revived kept (w .store) .1 .records ≡ take (w .store .safe + kept) (w .store .records)
     records = whole (w .store .alive) refl
+
     all : (b : Bool) → w .store .alive ≡ b → cond {A = Outcome ℕ} b (Err 43, w .store) (Ok kept, all-safe (with-power (record { alive = true; fuse = w .store .fuse }) (with-records (take (w .store .safe + kept) (w .store .records)) (w .store)))) .1 .safe
         ≡ length (cond {A = Outcome ℕ} b (Err 43, w .store) (Ok kept, all-safe (with-power (record { alive = true; fuse = w .store .fuse }) (with-records (take (w .store .safe + kept) (w .store .records)) (w .store)))) .1 .records)
     all true e = lives e
     all false e = refl
+
     safe : revived kept (w .store) .1 .safe ≡ length (revived kept (w .store) .1 .records)
     safe = all (w .store .alive) refl
 

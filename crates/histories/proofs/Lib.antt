@@ -10,3 +10,4 @@ mod Calls
 mod Histories
 mod Shown
 mod Ledgers
+mod Theorem

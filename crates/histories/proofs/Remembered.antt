@@ -60,7 +60,7 @@ module _ (V : Type 0) (M : Meaning) (N : ℕ) (F : Family) (K : Line) where
     above = rows-each (λ r xs. r < N → K r ≤ length xs) i p zs named (λ h. omega (arith, kept .above p h, length-append (i .rows p) zs)) (kept .above);
     checks = λ v r. subst (All (Good M r (reading-on i (map interval-record zs) .rows r))) (sym (checkpoints-same i zs r))
         (rows-each (λ k xs. All (Good M k xs) (i .checkpoints k)) i p zs named
-          (all-weaker (Good M p (i .rows p)) (Good M p (i .rows p ++ zs)) (good-longer M p (i .rows p) zs) (i .checkpoints p) (kept .checks v p)) (kept .checks v) r);
+        (all-weaker (Good M p (i .rows p)) (Good M p (i .rows p ++ zs)) (good-longer M p (i .rows p) zs) (i .checkpoints p) (kept .checks v p)) (kept .checks v) r);
   }
 
   pub kept-checkpoint : (i : Image) (c : Checkpoint) → (V → Good M (c .process) (i .rows (c .process)) c) → Kept i → Kept (noted i (content.Checkpoint c))
@@ -75,7 +75,7 @@ module _ (V : Type 0) (M : Meaning) (N : ℕ) (F : Family) (K : Line) where
       go v r (inl e) =
           subst (λ k. All (Good M k (i .rows k)) (at (i .checkpoints) (c .process) (i .checkpoints (c .process) ++ (c ∷ [])) k)) (sym e)
           (subst (All (Good M (c .process) (i .rows (c .process)))) (sym (at-same (i .checkpoints) (c .process) (i .checkpoints (c .process) ++ (c ∷ []))))
-            (all-push (Good M (c .process) (i .rows (c .process))) (i .checkpoints (c .process)) c (kept .checks v (c .process)) (good v)))
+          (all-push (Good M (c .process) (i .rows (c .process))) (i .checkpoints (c .process)) c (kept .checks v (c .process)) (good v)))
 
   pub kept-line : (i : Image) (entries : List ℕ) → ((p : ℕ) → p < N → K p ≤ getD entries p 0) → Kept i → Kept (noted i (content.Line entries))
   kept-line i entries low kept = record {

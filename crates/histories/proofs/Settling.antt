@@ -68,6 +68,7 @@ below-line (suc N) saved L e p h = go (λ k. below-line N saved L (both .0) p k)
   where
     both : (some-above N saved L ≡ false) × (ltb (L N) (saved N) ≡ false)
     both = or-parts (some-above N saved L) (ltb (L N) (saved N)) e
+
     go : (p < N → saved p ≤ L p) → (p < N) ⊎ (N ≤ p) → saved p ≤ L p
     go before (inl k) = before k
     go before (inr k) = let same : p ≡ N = omega arith in subst (λ r. saved r ≤ L r) (sym same) (ltb-false (L N) (saved N) (both .1))
@@ -223,11 +224,11 @@ module _ (V : Type 0) (M : Meaning) (N : ℕ) (given : Given) (K : Line) (F : Fa
   next-line true e room =
       next-written V M N K w (ready .family) (line-record N L ∷ []) (settled M N w L) (ready .lives) (ready .safe) (room refl) parts-kept
       (λ m alive is stored. next-settled m alive (stored .lives alive) (λ p. ap (λ rs. reading rs .rows p) is ∙ ap (λ i. i .rows p) line-read ∙ rows-with-line p)
-        (subst (λ rs. Kept V M N F K (reading rs)) (sym is) (subst (Kept V M N F K) (sym line-read) line-kept)))
+      (subst (λ rs. Kept V M N F K (reading rs)) (sym is) (subst (Kept V M N F K) (sym line-read) line-kept)))
 
 pub next-settling : (V : Type 0) (M : Meaning) (N : ℕ) (given : Given) (K : Line) (F : Family) (w : World) (c : Line) → N ≤ 8 → Ready V M N given K F w c →
     ltb (room (w .store)) (line-records N (w .saved) (greatest-line N (w .intervals) c)) ≡ false → Next V M N given K F (settling M N c w .1)
 next-settling V M N given K F w c few ready enough =
     next-line V M N given K F w c (greatest-line N (w .intervals) c) few ready (greatest-is-greatest N (w .intervals) c) (some-above N (w .saved) (greatest-line N (w .intervals) c)) refl
     (λ e. let one : line-records N (w .saved) (greatest-line N (w .intervals) c) ≡ 1 = cond-true (some-above N (w .saved) (greatest-line N (w .intervals) c)) 1 0 e in
-      omega (arith, ltb-false (room (w .store)) (line-records N (w .saved) (greatest-line N (w .intervals) c)) enough))
+    omega (arith, ltb-false (room (w .store)) (line-records N (w .saved) (greatest-line N (w .intervals) c)) enough))

@@ -49,7 +49,7 @@ pub same-numbers : (ns ms : List ℕ) (u v : World) → _≡_ {A = After} (accep
 unfolding numbers
 same-numbers ns ms u v e = ap (λ (a : After). numbers (a .0)) e
 
-outputs-append : (xs ys : List Interval) → outputs (xs ++ ys) ≡ outputs xs ++ outputs ys
+pub outputs-append : (xs ys : List Interval) → outputs (xs ++ ys) ≡ outputs xs ++ outputs ys
 outputs-append [] ys = refl
 outputs-append (x ∷ xs) ys = ap (λ l. listOf (x .output) ++ l) (outputs-append xs ys) ∙ sym (append-assoc (listOf (x .output)) (outputs xs) (outputs ys))
 
@@ -65,14 +65,14 @@ pub shows-again : (M : Meaning) (N : ℕ) (w v : World) → v .dark ≡ false �
 shows-again M N w v awake lasts p n kept later ns u =
     tested-each (λ a. (accepted ns, u) ≡ a → (accepted ns, v) ≡ rule M N later v (calls.show p n)) (tests N w (calls.show p n)) w (effect M N kept w (calls.show p n)) (λ r e. not-refused ns r u w e)
     (λ t e.
-      let exists : p < N = leb-false N p (t .0) in
-      let more = shown-more N w v p (lasts p exists .0) (lasts p exists .1) in
-      let enough : n ≤ length (shown N w p) = ltb-false (length (shown N w p)) n (t .1 .1 .1 .0) in
-      let some : (n ≡ 0) → ⊥ = eqb-false n 0 (or-parts (eqb n 0) (ltb 96 n) (t .1 .0) .0) in
-      let longer : n ≤ length (shown N v p) = omega (arith, ap length (more .1), length-append (shown N w p) (more .0)) in
-      let value : getD (shown N v p) (n - 1) 0 ≡ getD (shown N w p) (n - 1) 0 = ap (λ l. getD l (n - 1) 0) (more .1) ∙ getD-append-left (shown N w p) (more .0) 0 (n - 1) (omega (arith, some)) in
-      ap (λ l. (accepted l, v)) (same-numbers ns (getD (shown N w p) (n - 1) 0 ∷ []) u w e ∙ ap (λ k. k ∷ []) (sym value))
-      ∙ sym (tested-false (tests N v (calls.show p n)) v (effect M N later v (calls.show p n)) (t .0, (t .1 .0, (awake, (le-ltb (length (shown N v p)) n longer, tt))))))
+    let exists : p < N = leb-false N p (t .0) in
+    let more = shown-more N w v p (lasts p exists .0) (lasts p exists .1) in
+    let enough : n ≤ length (shown N w p) = ltb-false (length (shown N w p)) n (t .1 .1 .1 .0) in
+    let some : (n ≡ 0) → ⊥ = eqb-false n 0 (or-parts (eqb n 0) (ltb 96 n) (t .1 .0) .0) in
+    let longer : n ≤ length (shown N v p) = omega (arith, ap length (more .1), length-append (shown N w p) (more .0)) in
+    let value : getD (shown N v p) (n - 1) 0 ≡ getD (shown N w p) (n - 1) 0 = ap (λ l. getD l (n - 1) 0) (more .1) ∙ getD-append-left (shown N w p) (more .0) 0 (n - 1) (omega (arith, some)) in
+    ap (λ l. (accepted l, v)) (same-numbers ns (getD (shown N w p) (n - 1) 0 ∷ []) u w e ∙ ap (λ k. k ∷ []) (sym value))
+    ∙ sym (tested-false (tests N v (calls.show p n)) v (effect M N later v (calls.show p n)) (t .0, (t .1 .0, (awake, (le-ltb (length (shown N v p)) n longer, tt))))))
 
 -- an accepted settling answers the line first
 settled-line : (M : Meaning) (N : ℕ) (w : World) (L : Line) (m : store.Meaning) (ns : List ℕ) (u : World) → (accepted ns, u) ≡ settled M N w L m → take N ns ≡ map L (counting 0 N)
@@ -84,6 +84,7 @@ settling-line M N c w ns u = go (some-above N (w .saved) (greatest-line N (w .in
     wrote : (o : Outcome (Unit {0})) → (accepted ns, u) ≡ finished o w (settled M N w (greatest-line N (w .intervals) c)) → take N ns ≡ map (greatest-line N (w .intervals) c) (counting 0 N)
     wrote (Ok x, m) e = settled-line M N w (greatest-line N (w .intervals) c) m ns u e
     wrote (Err x, m) e = not-refused ns _ u _ e
+
     go : (b : Bool) → (accepted ns, u) ≡ cond b (finished (written (line-record N (greatest-line N (w .intervals) c) ∷ []) (w .store)) w (settled M N w (greatest-line N (w .intervals) c))) (settled M N w (greatest-line N (w .intervals) c) (w .store)) →
         take N ns ≡ map (greatest-line N (w .intervals) c) (counting 0 N)
     go true e = wrote (written (line-record N (greatest-line N (w .intervals) c) ∷ []) (w .store)) e

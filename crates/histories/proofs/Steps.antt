@@ -84,26 +84,34 @@ module _ (V : Type 0) (M : Meaning) (N : ℕ) (K : Line) where
       where
         G : Family
         G = at F p (F p ++ (x ∷ []))
+
         grows : Grows F p x (at F p (F p ++ (x ∷ [])))
         grows = record { here = at-same F p (F p ++ (x ∷ [])); others = λ r n. at-other F p (F p ++ (x ∷ [])) r n }
+
         same : w .intervals p ≡ F p
         same = h .rows .whole p up
+
         rowed : at (w .intervals) p (w .intervals p ++ (x ∷ [])) p ≡ at F p (F p ++ (x ∷ [])) p
         rowed = at-same (w .intervals) p (w .intervals p ++ (x ∷ [])) ∙ ap (λ xs. xs ++ (x ∷ [])) same ∙ sym (at-same F p (F p ++ (x ∷ [])))
+
         whole : (r : ℕ) → w .up r ≡ true → (r ≡ p) ⊎ (r ≡ p → ⊥) → at (w .intervals) p (w .intervals p ++ (x ∷ [])) r ≡ at F p (F p ++ (x ∷ [])) r
         whole r u (inl e) = subst (λ k. at (w .intervals) p (w .intervals p ++ (x ∷ [])) k ≡ at F p (F p ++ (x ∷ [])) k) (sym e) rowed
         whole r u (inr n) = at-other (w .intervals) p _ r n ∙ h .rows .whole r u ∙ sym (at-other F p _ r n)
+
         go : (r : ℕ) → (r ≡ p) ⊎ (r ≡ p → ⊥) → Front (at (w .intervals) p (w .intervals p ++ (x ∷ [])) r) (at F p (F p ++ (x ∷ [])) r)
         go r (inl e) = subst (λ ys. Front (at (w .intervals) p (w .intervals p ++ (x ∷ [])) r) ys) (whole r (subst (λ k. w .up k ≡ true) (sym e) up) (inl e)) (front-self _)
         go r (inr n) = subst (λ xs. Front xs (at F p (F p ++ (x ∷ [])) r)) (sym (at-other (w .intervals) p _ r n)) (subst (λ ys. Front (w .intervals r) ys) (sym (at-other F p _ r n)) (h .rows .fronts r))
+
         downs : (r : ℕ) → w .up r ≡ false → (r ≡ p) ⊎ (r ≡ p → ⊥) → w .saved r ≡ length (at (w .intervals) p (w .intervals p ++ (x ∷ [])) r)
         downs r d (inl e) = not-both (w .up r) (subst (λ k. w .up k ≡ true) (sym e) up) d
         downs r d (inr n) = h .rows .downs r d ∙ ap length (sym (at-other (w .intervals) p _ r n))
+
         states : V → (r : ℕ) → w .up r ≡ true → (r ≡ p) ⊎ (r ≡ p → ⊥) → at (w .state) p (M .step p (w .state p) (x .source) (x .value) .0) r ≡ play M r (at (w .intervals) p (w .intervals p ++ (x ∷ [])) r)
         states v r u (inr n) = at-other (w .state) p _ r n ∙ h .rows .states v r u ∙ ap (play M r) (sym (at-other (w .intervals) p _ r n))
         states v r u (inl e) = subst (λ k. at (w .state) p (M .step p (w .state p) (x .source) (x .value) .0) k ≡ play M k (at (w .intervals) p (w .intervals p ++ (x ∷ [])) k)) (sym e)
             (at-same (w .state) p _ ∙ ap (λ s. M .step p s (x .source) (x .value) .0) (h .rows .states v p up)
             ∙ sym (ap (play M p) (at-same (w .intervals) p _) ∙ folded-push (λ s y. M .step p s (y .source) (y .value) .0) (M .start p) (w .intervals p) x))
+
         reads : (r : ℕ) → (r ≡ p) ⊎ (r ≡ p → ⊥) → take (w .saved r) (w .intervals r) ≡ take (w .saved r) (at (w .intervals) p (w .intervals p ++ (x ∷ [])) r)
         reads r (inr n) = ap (take (w .saved r)) (sym (at-other (w .intervals) p _ r n))
         reads r (inl e) = subst (λ k. take (w .saved k) (w .intervals k) ≡ take (w .saved k) (at (w .intervals) p (w .intervals p ++ (x ∷ [])) k)) (sym e)
@@ -134,13 +142,17 @@ module _ (V : Type 0) (M : Meaning) (N : ℕ) (K : Line) where
       where
         count : length (take (w .saved p) (w .intervals p)) ≡ w .saved p
         count = let a = h .rows .bounded p in simp length-take (omega arith)
+
         was : (r : ℕ) → at (w .up) p false r ≡ true → (r ≡ p → ⊥) → w .up r ≡ true
         was r u n = sym (at-other (w .up) p false r n) ∙ u
+
         other : {A : Type 0} (r : ℕ) → at (w .up) p false r ≡ true → ((r ≡ p → ⊥) → A) → A
         other r u next = next (λ e. true≢false (sym u ∙ subst (λ k. at (w .up) p false k ≡ false) (sym e) (at-same (w .up) p false)))
+
         downs : (r : ℕ) → at (w .up) p false r ≡ false → (r ≡ p) ⊎ (r ≡ p → ⊥) → w .saved r ≡ length (at (w .intervals) p (take (w .saved p) (w .intervals p)) r)
         downs r d (inl e) = subst (λ k. w .saved k ≡ length (at (w .intervals) p (take (w .saved p) (w .intervals p)) k)) (sym e) (sym (ap length (at-same (w .intervals) p _) ∙ count))
         downs r d (inr n) = h .rows .downs r (sym (at-other (w .up) p false r n) ∙ d) ∙ ap length (sym (at-other (w .intervals) p _ r n))
+
         reads : (r : ℕ) → (r ≡ p) ⊎ (r ≡ p → ⊥) → take (w .saved r) (w .intervals r) ≡ take (w .saved r) (at (w .intervals) p (take (w .saved p) (w .intervals p)) r)
         reads r (inr n) = ap (take (w .saved r)) (sym (at-other (w .intervals) p _ r n))
         reads r (inl e) = subst (λ k. take (w .saved k) (w .intervals k) ≡ take (w .saved k) (at (w .intervals) p (take (w .saved p) (w .intervals p)) k)) (sym e)
@@ -178,6 +190,7 @@ module _ (V : Type 0) (M : Meaning) (N : ℕ) (K : Line) where
     where
       parts : (m : store.Meaning) (j : ℕ) → m .records ≡ w .store .records ++ take j ws → store.count (w .store) ≤ m .safe → Remembered V M N F K (m .records) (m .safe)
       parts m j e under = subst (λ rs. Remembered V M N F K rs (m .safe)) (sym e) (remembered-write V M N F K (w .store .records) ws (m .safe) under good j)
+
       go : {o : Outcome (Unit {0})} → Wrote ws (w .store) o → Next V M N given K F (finished o w next .1)
       go (done m e s lives) = success m lives e (record {
         safe = omega (arith, s);
@@ -231,7 +244,7 @@ module _ (V : Type 0) (M : Meaning) (N : ℕ) (K : Line) where
     begins : (j : ℕ) → Front (reading (w .store .records) .rows p ++ take j (unsaved w p)) (F p)
     begins j =
         let parts : w .intervals p ≡ (take (w .saved p) (w .intervals p) ++ take j (unsaved w p)) ++ drop j (unsaved w p)
-              = sym (take-append-drop (w .saved p) (w .intervals p)) ∙ ap (λ ys. take (w .saved p) (w .intervals p) ++ ys) (sym (take-append-drop j (unsaved w p))) ∙ sym (append-assoc (take (w .saved p) (w .intervals p)) (take j (unsaved w p)) (drop j (unsaved w p))) in
+        = sym (take-append-drop (w .saved p) (w .intervals p)) ∙ ap (λ ys. take (w .saved p) (w .intervals p) ++ ys) (sym (take-append-drop j (unsaved w p))) ∙ sym (append-assoc (take (w .saved p) (w .intervals p)) (take j (unsaved w p)) (drop j (unsaved w p))) in
         (drop j (unsaved w p), sym (h .rows .whole p up) ∙ parts ∙ ap (λ xs. (xs ++ take j (unsaved w p)) ++ drop j (unsaved w p)) (sym (h .read awake p)))
 
     some-kept : (j : ℕ) → Kept V M N F K (reading-on (reading (w .store .records)) (map interval-record (take j (unsaved w p))))
@@ -253,8 +266,8 @@ module _ (V : Type 0) (M : Meaning) (N : ℕ) (K : Line) where
     next-saving room (x ∷ xs) e =
         subst (λ ys. Next V M N given K F (finished (written (map interval-record ys) (w .store)) w after .1)) (sym e)
         (next-written w (h .family) (map interval-record (unsaved w p)) after lives all-safe (let some : 0 < length (unsaved w p) = omega (arith, ap length e) in simp length-map (room some)) intervals-kept
-          (λ m alive is stored. next-saved m alive stored (ap (λ rs. reading rs .rows p) is ∙ ap (λ i. i .rows p) (reading-append (w .store .records) _) ∙ row-read)
-            (λ r n. ap (λ rs. reading rs .rows r) is ∙ ap (λ i. i .rows r) (reading-append (w .store .records) _) ∙ row-others r n)))
+        (λ m alive is stored. next-saved m alive stored (ap (λ rs. reading rs .rows p) is ∙ ap (λ i. i .rows p) (reading-append (w .store .records) _) ∙ row-read)
+        (λ r n. ap (λ rs. reading rs .rows r) is ∙ ap (λ i. i .rows r) (reading-append (w .store .records) _) ∙ row-others r n)))
       where
         after : store.Meaning → After
         after m = (accepted (length (w .intervals p) ∷ []), all-saved p w m)
@@ -268,7 +281,7 @@ module _ (V : Type 0) (M : Meaning) (N : ℕ) (K : Line) where
     marked-kept =
         kept-checkpoint V M N F K (reading-on (reading (w .store .records)) (map interval-record (unsaved w p))) (record { process = p; index = length (w .intervals p); state = w .state p })
         (λ v. subst (λ xs. Good M p xs (record { process = p; index = length (w .intervals p); state = w .state p })) (sym row-read)
-          (omega arith, h .rows .states v p up ∙ ap (play M p) (sym (take-all (length (w .intervals p)) (w .intervals p) (omega arith)))))
+        (omega arith, h .rows .states v p up ∙ ap (play M p) (sym (take-all (length (w .intervals p)) (w .intervals p) (omega arith)))))
         (subst (λ xs. Kept V M N F K (reading-on (reading (w .store .records)) (map interval-record xs))) (take-all (length (unsaved w p)) (unsaved w p) (omega arith)) (some-kept (length (unsaved w p))))
 
     mark-kept : (j : ℕ) → Kept V M N F K (reading (w .store .records ++ take j (map interval-record (unsaved w p) ++ (checkpoint-record p (length (w .intervals p)) (w .state p) ∷ []))))
@@ -283,4 +296,4 @@ module _ (V : Type 0) (M : Meaning) (N : ℕ) (K : Line) where
         next-written w (h .family) (map interval-record (unsaved w p) ++ (checkpoint-record p (length (w .intervals p)) (w .state p) ∷ [])) (λ m. (accepted (length (w .intervals p) ∷ []), all-saved p w m)) lives all-safe
         (simp (length-push, length-map) room) mark-kept
         (λ m alive is stored. next-saved m alive stored (ap (λ rs. reading rs .rows p) is ∙ ap (λ i. i .rows p) marked ∙ row-read)
-          (λ r n. ap (λ rs. reading rs .rows r) is ∙ ap (λ i. i .rows r) marked ∙ row-others r n))
+        (λ r n. ap (λ rs. reading rs .rows r) is ∙ ap (λ i. i .rows r) marked ∙ row-others r n))

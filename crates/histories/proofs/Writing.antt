@@ -26,6 +26,7 @@ syncs m alive = subst (λ b. Wrote [] m (cond b (powered all-safe m) (Err 40, m)
     burn : (k : ℕ) (b : Bool) → Wrote [] m (changed all-safe m (cond b (Err 40, record { alive = false; fuse = None }) (Ok tt, record { alive = m .alive; fuse = Some (k - 1) })))
     burn k true = died 40 _ 0 (omega arith) (sym (append-nil (m .records))) refl refl
     burn k false = done _ (sym (append-nil (m .records))) refl alive
+
     go : (f : Option ℕ) → Wrote [] m (changed all-safe m (spent (m .alive) f))
     go None = done _ (sym (append-nil (m .records))) refl alive
     go (Some k) = burn k (eqb k 0)
@@ -44,9 +45,11 @@ appends r rs m alive room next =
     more : (n : Meaning) → n .records ≡ m .records ++ (r ∷ []) → n .safe ≡ m .safe → {o : Outcome (Unit {0})} → Wrote rs n o → Wrote (r ∷ rs) m o
     more n e s (done k f safe lives) = done k (f ∙ ap (λ xs. xs ++ rs) e ∙ append-assoc (m .records) (r ∷ []) rs) safe lives
     more n e s (died x k j l f safe dead) = died x k (suc j) (omega arith) (f ∙ ap (λ xs. xs ++ take j rs) e ∙ append-assoc (m .records) (r ∷ []) (take j rs)) (safe ∙ s) dead
+
     burn : (k : ℕ) (b : Bool) → Wrote (r ∷ rs) m (then (changed (adding r) m (cond b (Err 40, record { alive = false; fuse = None }) (Ok tt, record { alive = m .alive; fuse = Some (k - 1) }))) (written rs))
     burn k true = died 40 _ 0 (omega arith) (sym (append-nil (m .records))) refl refl
     burn k false = more _ refl refl (next _ refl refl alive refl)
+
     go : (f : Option ℕ) → Wrote (r ∷ rs) m (then (changed (adding r) m (spent (m .alive) f)) (written rs))
     go None = more _ refl refl (next _ refl refl alive refl)
     go (Some k) = burn k (eqb k 0)

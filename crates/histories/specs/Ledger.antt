@@ -37,9 +37,9 @@ blank N = record { intervals = λ p. []; saved = λ p. 0; up = λ p. ltb p N; re
 -- what a restart finds: what revive left, as it is read
 abbrev pub found : ℕ → ℕ → Ledger → Ledger
 found N kept l =
-  let records = take (l .safe + kept) (l .records) in
-  let rows : Family = λ p. cond (ltb p N) (take 96 (reading records .rows p)) [] in
-  record { intervals = rows; saved = λ p. length (rows p); up = λ p. false; records = records; safe = length records }
+    let records = take (l .safe + kept) (l .records) in
+    let rows : Family = λ p. cond (ltb p N) (take 96 (reading records .rows p)) [] in
+    record { intervals = rows; saved = λ p. length (rows p); up = λ p. false; records = records; safe = length records }
 
 abbrev pub grounds : ℕ → ℕ → Call → Ledger → Ledger
 grounds N kept (restart j) l = found N kept l
@@ -133,9 +133,9 @@ is-restart (look p) = false
 -- 20: appended until the count is the place. 18 at restart: revive's work stays. Other refusals change nothing
 abbrev pub after-refusal : Meaning → ℕ → ℕ → Call → Refusal → Ledger → Ledger
 after-refusal M N kept c r l =
-  let g = grounds N kept c l in
-  cond (eqb (r .number) 20) (lost (r .place - length (g .records)) (writes M N c g) g)
-  (cond (is-restart c) (cond (eqb (r .number) 18) (lost 0 [] g) l) l)
+    let g = grounds N kept c l in
+    cond (eqb (r .number) 20) (lost (r .place - length (g .records)) (writes M N c g) g)
+    (cond (is-restart c) (cond (eqb (r .number) 18) (lost 0 [] g) l) l)
 
 abbrev pub after-answer : Meaning → ℕ → ℕ → Call → Answer → Ledger → Ledger
 after-answer M N kept c (accepted ns) l = synced-with (writes M N c (grounds N kept c l)) (turns M N c (grounds N kept c l))

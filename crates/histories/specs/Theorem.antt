@@ -1,15 +1,15 @@
 -- What holds of every history of a host.
-use Prim.Native.Nat.{ℕ, _+_, _<_, _≤_}
+use Prim.Native.Nat.{ℕ, _+_, _-_, _<_, _≤_}
 use mathlib.Core.Bool.{Bool, true, false, _&&_, _||_}
 use mathlib.Core.List.{List, [], _∷_, _++_, map}
 use mathlib.Core.Path.{_≡_}
 use lib.Dec.{eqb}
-use lib.ListN.{length, take}
+use lib.ListN.{length, getD, take}
 use Rattle.std.specs.Iters.{counting}
 use Rattle.programs.specs.Program.{Meaning}
 use Rattle.runs.specs.Run.{Move}
 use Rattle.lines.specs.Built.{Given}
-use Rattle.lines.specs.Intervals.{play}
+use Rattle.lines.specs.Intervals.{play, outputs}
 use Rattle.lines.specs.Lines.{Line, Greatest}
 use Rattle.lines.specs.Played.{Recorded}
 use Rattle.histories.specs.Calls as calls
@@ -73,3 +73,16 @@ pub record Lasting (M : Meaning) (N : ℕ) (w v : World) : Type 0 where
   pub line : (p : ℕ) → p < N → committed N w p ≤ committed N v p
   pub intervals : (p : ℕ) → p < N → take (committed N w p) (v .intervals p) ≡ take (committed N w p) (w .intervals p)
   pub shows : (p n kept later : ℕ) (ns : List ℕ) (u : World) → (accepted ns, u) ≡ rule M N kept w (calls.show p n) → (accepted ns, v) ≡ rule M N later v (calls.show p n)
+
+-- what holds of a history and of every way in which it goes on
+pub record Claims (M : Meaning) (N : ℕ) (es : List Event) (w : World) : Type 0 where
+  pub shape : Shape M es N w
+  pub greatest : Recovers M N es w
+  pub failure-free : Failure-free M N es w
+  pub lasting : (later : List Event) (v : World) → History M N w later v → w .dark ≡ false → v .dark ≡ false → Lasting M N w v
+  -- an accepted show answers the ledger's n-th output of p
+  pub shows : (p n kept : ℕ) (ns : List ℕ) (u : World) → (accepted ns, u) ≡ rule M N kept w (calls.show p n) → ns ≡ getD (outputs (ledger M N es .intervals p)) (n - 1) 0 ∷ []
+
+-- for every program meaning, up to eight processes, and every history from a first world
+abbrev pub Every-history : Type 0
+Every-history = (M : Meaning) (N : ℕ) → N ≤ 8 → (first : World) → First M N first → (es : List Event) (w : World) → History M N first es w → Claims M N es w
