@@ -89,3 +89,6 @@ pub record Scripts : Type 0 where
   -- what is committed is shown, before and after a loss of power
   pub shown-again : script 512 (input 0 1 (order-value 7 0) ∷ show 0 1 ∷ save 0 ∷ show 0 1 ∷ fail 0 ∷ mark 0 ∷ restart 0 ∷ show 0 1 ∷ show 0 2 ∷ [])
       ≡ ok (1 ∷ []) ∷ no 19 0 ∷ ok (1 ∷ []) ∷ ok (order-value 7 0 ∷ []) ∷ ok (0 ∷ []) ∷ gone 20 1 ∷ ok (1 ∷ 0 ∷ 0 ∷ 1 ∷ 0 ∷ 0 ∷ []) ∷ ok (order-value 7 0 ∷ []) ∷ no 19 0 ∷ []
+  -- an interval that a recovery took back does not come back under a new one of the same number
+  pub no-orphan : drop 8 (script 512 (lost-stock ++ (recover ∷ input 1 1 10 ∷ deliver 0 1 ∷ save 1 ∷ fail 0 ∷ mark 0 ∷ restart 0 ∷ look 2 ∷ show 2 1 ∷ [])))
+      ≡ ok (1 ∷ 0 ∷ 0 ∷ 0 ∷ 0 ∷ 0 ∷ []) ∷ ok (1 ∷ []) ∷ ok (2 ∷ []) ∷ ok (2 ∷ []) ∷ ok (0 ∷ []) ∷ gone 20 5 ∷ ok (1 ∷ 2 ∷ 0 ∷ 1 ∷ 2 ∷ 0 ∷ []) ∷ ok (0 ∷ 0 ∷ 0 ∷ 0 ∷ 0 ∷ 0 ∷ []) ∷ no 19 0 ∷ []

@@ -20,5 +20,6 @@ returns c = record {
     no-room = refl;
     full-recovery = refl;
     shown-again = refl;
+    no-orphan = refl;
   };
 }
