@@ -74,6 +74,9 @@ pub record Scripts : Type 0 where
       ≡ ok (1 ∷ []) ∷ ok (2 ∷ []) ∷ ok (1 ∷ []) ∷ gone 20 1 ∷ no 10 0 ∷ ok (0 ∷ 0 ∷ 0 ∷ 0 ∷ 0 ∷ 0 ∷ []) ∷ ok (0 ∷ 0 ∷ 0 ∷ 0 ∷ 0 ∷ 0 ∷ []) ∷ []
   pub one-kept : script 8 (input 1 1 10 ∷ input 1 2 5 ∷ fail 1 ∷ save 1 ∷ restart 9 ∷ look 1 ∷ [])
       ≡ ok (1 ∷ []) ∷ ok (2 ∷ []) ∷ ok (1 ∷ []) ∷ gone 20 1 ∷ ok (0 ∷ 1 ∷ 0 ∷ 0 ∷ 1 ∷ 0 ∷ []) ∷ ok (1 ∷ 1 ∷ 10 ∷ 0 ∷ 0 ∷ 0 ∷ []) ∷ []
+  -- a checkpoint comes after its intervals, so that none is left without them
+  pub mark-cut : script 8 (input 1 1 10 ∷ input 1 2 5 ∷ fail 1 ∷ mark 1 ∷ restart 1 ∷ look 1 ∷ [])
+      ≡ ok (1 ∷ []) ∷ ok (2 ∷ []) ∷ ok (1 ∷ []) ∷ gone 20 1 ∷ ok (0 ∷ 1 ∷ 0 ∷ 0 ∷ 1 ∷ 0 ∷ []) ∷ ok (1 ∷ 1 ∷ 10 ∷ 0 ∷ 0 ∷ 0 ∷ []) ∷ []
   -- the power goes inside a recovery, before its line record is appended
   pub before-line : drop 8 (script 512 (lost-stock ++ (fail 0 ∷ recover ∷ look 0 ∷ restart 0 ∷ look 2 ∷ [])))
       ≡ ok (0 ∷ []) ∷ gone 20 2 ∷ no 10 0 ∷ ok (1 ∷ 0 ∷ 0 ∷ 1 ∷ 0 ∷ 0 ∷ []) ∷ ok (0 ∷ 0 ∷ 0 ∷ 0 ∷ 0 ∷ 0 ∷ []) ∷ []

@@ -21,5 +21,6 @@ returns c = record {
     full-recovery = refl;
     shown-again = refl;
     no-orphan = refl;
+    mark-cut = refl;
   };
 }
