@@ -5,7 +5,7 @@ use mathlib.Core.Logic.{_⊎_, inl, inr}
 use mathlib.Core.Path.{_≡_, refl, sym, ap, subst, _∙_}
 use native.Mathlib.Omega.{arith}
 use lib.Dec.{eqb}
-use lib.ListN.{length, drop}
+use lib.ListN.{length, take, drop}
 use Rattle.std.specs.shelf.Lists.{All, kept-by}
 use Rattle.std.proofs.shelf.Elements.{all-append, all-weaker}
 use Rattle.std.proofs.shelf.Lists.{append-assoc}
@@ -30,6 +30,11 @@ pub from-drop : (n k : ℕ) (xs : List Interval) → From n xs → k ≤ length 
 from-drop n zero xs h l = subst (λ m. From m xs) (omega arith) h
 from-drop n (suc k) [] h l = tt
 from-drop n (suc k) (x ∷ xs) h l = subst (λ m. From m (drop k xs)) (omega arith) (from-drop (n + 1) k xs (h .1) (omega arith))
+
+pub from-take : (n k : ℕ) (xs : List Interval) → From n xs → From n (take k xs)
+from-take n zero xs h = tt
+from-take n (suc k) [] h = tt
+from-take n (suc k) (x ∷ xs) h = (h .0, from-take (n + 1) k xs (h .1))
 
 -- each message of an interval has its index
 all-sent-in : (P : ℕ → Type 0) (t : ℕ) (x : Interval) → P (x .index) → All (λ m. P (m .sent-at)) (sent-in t x)

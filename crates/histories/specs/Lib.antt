@@ -1,0 +1,10 @@
+pub mod World
+pub mod Calls
+pub mod Reading
+pub mod Tests
+pub mod Effects
+pub mod Rules
+pub mod Scripts
+pub mod Ledger
+pub mod History
+pub mod Theorem
