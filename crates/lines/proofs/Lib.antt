@@ -1,0 +1,3 @@
+pub mod Greatest
+pub mod Indexes
+pub mod Cut
