@@ -42,13 +42,14 @@ module _ (N : ℕ) (L : Line) {F G : Family} {p : ℕ} {x : Interval} (grows : G
         where
           here : All (Backed N L) (take (L p) (F p ++ (x ∷ [])))
           here = subst (λ xs. All (Backed N L) (take (L p) xs)) (grows .here) (subst (λ k. All (Backed N L) (take (L k) (G k))) e (consistent r h))
+
           short : (length (F p) < L p) ⊎ (L p ≤ length (F p)) → All (Backed N L) (take (L p) (F p))
           short (inr l) = subst (All (Backed N L)) (take-append-le (L p) (F p) (x ∷ []) l) here
           short (inl l) =
               let whole : take (L p) (F p ++ (x ∷ [])) ≡ F p ++ (x ∷ []) = take-all (L p) (F p ++ (x ∷ [])) (simp length-push (omega arith)) in
               let front : take (length (F p)) (F p ++ (x ∷ [])) ≡ F p = take-append-le (length (F p)) (F p) (x ∷ []) (omega arith) ∙ take-all (length (F p)) (F p) (omega arith) in
               subst (All (Backed N L)) (front ∙ sym (take-all (L p) (F p) (omega arith)))
-                (all-take (Backed N L) (length (F p)) (F p ++ (x ∷ [])) (subst (All (Backed N L)) whole here))
+              (all-take (Backed N L) (length (F p)) (F p ++ (x ∷ [])) (subst (All (Backed N L)) whole here))
 
   -- below the new interval the two are cut alike
   cut-before : L p ≤ length (F p) → (r : ℕ) → cut G L r ≡ cut F L r

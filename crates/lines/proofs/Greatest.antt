@@ -67,9 +67,9 @@ module _ (N : ℕ) (F : Family) where
   lowered-keeps : (K L : Line) → Consistent N F K → ((p : ℕ) → p < N → K p ≤ length (F p)) → ((p : ℕ) → p < N → K p ≤ L p) → (p : ℕ) → p < N → K p ≤ lowered N F L p
   lowered-keeps K L consistent rows below p h =
       leading-front (backed N L) (K p) (take (L p) (F p))
-        (let a = rows p h in let b = below p h in simp length-take (omega arith))
-        (subst (All (λ x. backed N L x ≡ true)) (sym (take-take (K p) (L p) (F p) (below p h)))
-          (all-weaker (Backed N K) (λ x. backed N L x ≡ true) (λ x b. true-backed N L x (λ s. let c = b s in let d = below (x .source) s in omega arith)) (take (K p) (F p)) (consistent p h)))
+      (let a = rows p h in let b = below p h in simp length-take (omega arith))
+      (subst (All (λ x. backed N L x ≡ true)) (sym (take-take (K p) (L p) (F p) (below p h)))
+      (all-weaker (Backed N K) (λ x. backed N L x ≡ true) (λ x b. true-backed N L x (λ s. let c = b s in let d = below (x .source) s in omega arith)) (take (K p) (F p)) (consistent p h)))
 
   -- no process can be lowered
   abbrev Fixed : Line → Type 0
@@ -120,7 +120,7 @@ module _ (N : ℕ) (F : Family) where
   fixed-consistent L fixed p h =
       all-weaker (λ x. backed N L x ≡ true) (Backed N L) (λ x e. backed-true N L x e) (take (L p) (F p))
       (subst (All (λ x. backed N L x ≡ true)) (take-take (L p) (L p) (F p) (omega arith))
-        (front-passes (backed N L) (L p) (take (L p) (F p)) (omega (arith, fixed p h))))
+      (front-passes (backed N L) (L p) (take (L p) (F p)) (omega (arith, fixed p h))))
 
   clipped-is : (c : Line) (p : ℕ) → p < N → clipped N F c p ≡ min (c p) (length (F p))
   clipped-is c p h = cond-true (ltb p N) (min (c p) (length (F p))) 0 (lt-ltb p N h)

@@ -1,1 +1,3 @@
 mod Standing
+mod Families
+mod Lowered

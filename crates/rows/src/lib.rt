@@ -1,1 +1,3 @@
+pub mod line;
 pub mod row;
+pub mod table;

@@ -52,7 +52,7 @@ impl Row {
     pub fn save(&mut self)
         ensures { λ _. ⌜ held (now (self .exit)) ≡ all-saved (held (now (self .entry))) ⌝ }
     {
-        self.saved = self.count;
+        self.saved = self.count();
     }
 
     // The process is up, in the state that its intervals led to.

@@ -17,7 +17,7 @@ impl Row {
     pub fn count(&self) -> u8
         ensures { λ r. ⌜ r ≡ length (standing (now (self .entry))) ⌝ }
     {
-        self.count
+        self.intervals().len() as u8
     }
 
     pub fn saved(&self) -> u8
