@@ -1,28 +1,39 @@
 -- The rows of a table as a family, by look-up.
 use Prim.Native.Nat.{ℕ, _≤_, _<_, min}
-use mathlib.Core.List.{List, [], map}
+use mathlib.Core.Bool.{true, cond}
+use mathlib.Core.List.{List, map}
 use mathlib.Core.Logic.{_⊎_, inl, inr}
-use mathlib.Core.Path.{_≡_, sym, ap, subst, _∙_}
+use mathlib.Core.Path.{_≡_, refl, sym, ap, subst, _∙_}
 use native.Mathlib.Omega.{arith}
 use lib.Dec.{ltb}
-use lib.ListN.{length, getD}
-use Rattle.std.proofs.shelf.Lists.{getD-map, getD-past}
+use lib.ListN.{length, getD, set}
+use Rattle.std.proofs.shelf.Lists.{getD-map, getD-past, getD-set-same, getD-set-other, map-set, length-map}
 use Rattle.std.proofs.shelf.Tests.{cases-lt, cond-true, cond-false, lt-ltb, le-ltb}
 use Rattle.lines.specs.Lines.{Line, clipped}
-use Rattle.rows.specs.Lowering.{line-of}
-use Rattle.rows.specs.Rows.{standing}
-use Rattle.rows.specs.Tables.{processes, family}
+use Rattle.rows.specs.Answers.{line-of}
+use Rattle.rows.specs.Rows.{held}
+use Rattle.rows.specs.Tables.{processes, idle, row-of, family, Changed}
 use Rattle.rows.specs.declared.row.Row.{Row}
 use Rattle.rows.specs.declared.table.Table.{Table}
-use Rattle.rows.proofs.Standing.{length-standing}
 
-pub standing-at : (t : Table) (p : ℕ) (row : Row) → length (t .rows) ≡ 8 → p < processes t → family t p ≡ standing (getD (t .rows) p row)
-standing-at t p row long h =
-    let l : p < length (t .rows) = omega (arith, long) in
-    cond-true (ltb p (processes t)) (getD (map standing (t .rows)) p []) [] (lt-ltb p (processes t) h) ∙ getD-map standing (t .rows) p row [] l
+module _ (t : Table) (p : ℕ) (row : Row) (long : length (t .rows) ≡ 8) (exists : p < processes t) where
+  place : p < length (t .rows)
+  place = omega (arith, long)
 
-pub standing-few : (row : Row) → length (standing row) ≤ 96
-standing-few row = omega (arith, length-standing row, row .few)
+  test : ltb p (processes t) ≡ true
+  test = lt-ltb p (processes t) exists
+
+  pub row-at : row-of t p ≡ held (getD (t .rows) p row)
+  row-at = cond-true (ltb p (processes t)) (getD (map held (t .rows)) p idle) idle test ∙ getD-map held (t .rows) p row idle place
+
+  -- a change of one row is a change of that process alone
+  pub row-changed : Changed p (held row) t (record { rows = set (t .rows) p row; count = t .count })
+  row-changed = record {
+    count = refl;
+    here = cond-true (ltb p (processes t)) (getD (map held (set (t .rows) p row)) p idle) idle test ∙ ap (λ hs. getD hs p idle) (map-set held (t .rows) p row)
+        ∙ getD-set-same (map held (t .rows)) p (held row) idle (subst (λ n. p < n) (sym (length-map (t .rows) held)) place);
+    others = λ r n. ap (λ h. cond (ltb r (processes t)) h idle) (ap (λ hs. getD hs r idle) (map-set held (t .rows) p row) ∙ getD-set-other (map held (t .rows)) p r (held row) idle n);
+  }
 
 -- what is no process has no intervals, so its count is cut to 0 either way
 pub clip-is : (t : Table) (c : Line) (p : ℕ) → min (c p) (length (family t p)) ≡ clipped (processes t) (family t) c p
@@ -32,7 +43,7 @@ clip-is t c p = go (cases-lt p (processes t))
     go (inl h) = sym (cond-true (ltb p (processes t)) (min (c p) (length (family t p))) 0 (lt-ltb p (processes t) h))
     go (inr h) =
         let test = le-ltb p (processes t) h in
-        let none : length (family t p) ≡ 0 = ap length (cond-false (ltb p (processes t)) (getD (map standing (t .rows)) p []) [] test) in
+        let none : length (family t p) ≡ 0 = ap (λ h. length (h .intervals)) (cond-false (ltb p (processes t)) (getD (map held (t .rows)) p idle) idle test) in
         let zero : min (c p) (length (family t p)) ≡ 0 = omega arith in
         zero ∙ sym (cond-false (ltb p (processes t)) (min (c p) (length (family t p))) 0 test)
 

@@ -13,13 +13,13 @@ use Rattle.std.proofs.shelf.Elements.{all-getD}
 use Rattle.std.proofs.shelf.Lists.{getD-take, getD-default, getD-set-same, getD-set-other, set-getD, length-take-le, take-take, take-all}
 use Rattle.std.proofs.shelf.Sums.{sumBy-set}
 use Rattle.std.proofs.shelf.Tests.{cases-lt, cases-eq, cond-true, cond-false, lt-ltb, le-ltb, true≢false, false≢true}
-use Rattle.std.specs.declared.option.Option.the-variants.{None}
-use Rattle.programs.specs.declared.values.Sends.the-variants.{Nothing}
 use Rattle.records.specs.declared.Interval.{Interval}
 use Rattle.lines.specs.Intervals.{Family}
 use Rattle.lines.specs.Lines.{Line, Backed, Consistent, Within, Greatest, total, backed, lowered, rounds, clipped, greatest-line}
 use Rattle.lines.proofs.Greatest.{greatest-is-greatest, greatest-unique}
-use Rattle.rows.specs.Lowering.{line-of, Rows-hold, Front, Lower, Lowers, Answers}
+use Rattle.rows.specs.Answers.{line-of, Greatest-line}
+use Rattle.rows.specs.Lowering.{Rows-hold, Front, Lower, Lowers}
+use Rattle.rows.proofs.Finding.{blank}
 
 module _ (N : ℕ) (L : Line) (xs : List Interval) where
   pub front-stops : (i : ℕ) (d : Interval) → i < length xs → All (Backed N L) (take i xs) → (Backed N L (getD xs i d) → ⊥) → Front N L xs i
@@ -35,10 +35,6 @@ module _ (N : ℕ) (L : Line) (xs : List Interval) where
     backed = subst (All (Backed N L)) (take-all i xs h ∙ sym (take-all (length xs) xs (omega arith))) all;
     next = λ e l b. omega arith;
   }
-
--- any interval, where a read wants one
-blank : Interval
-blank = record { process = 0; index = 0; source = 0; «sent_at» = 0; value = 0; sends = Nothing; output = None; vector = [] }
 
 backed-above : (N : ℕ) (K L : Line) (x : Interval) → ((q : ℕ) → q < N → K q ≤ L q) → Backed N K x → Backed N L x
 backed-above N K L x below b s = omega (arith, b s, below (x .source) s)
@@ -144,7 +140,7 @@ rounds-zero zero N F L p e = e
 rounds-zero (suc n) N F L p e = rounds-zero n N F (lowered N F L) p (ap (λ k. leading (backed N L) (take k (F p))) e)
 
 -- lowered from the clipped counts until it is consistent, a line is the greatest
-pub answers : (N : ℕ) (F : Family) (c : Line) (xs ys : List ℕ) → ((p : ℕ) → line-of xs p ≡ clipped N F c p) → Lower N F xs ys → Consistent N F (line-of ys) → Answers N F c (line-of ys)
+pub answers : (N : ℕ) (F : Family) (c : Line) (xs ys : List ℕ) → ((p : ℕ) → line-of xs p ≡ clipped N F c p) → Lower N F xs ys → Consistent N F (line-of ys) → Greatest-line N F c (line-of ys)
 answers N F c xs ys begins low consistent = record {
   value = λ p. value p (cases-lt p N);
   greatest = greatest;

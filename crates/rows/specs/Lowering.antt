@@ -7,11 +7,8 @@ use lib.ListN.{length, getD, take}
 use Rattle.std.specs.shelf.Lists.{All, sum}
 use Rattle.records.specs.declared.Interval.{Interval}
 use Rattle.lines.specs.Intervals.{Family}
-use Rattle.lines.specs.Lines.{Line, Backed, Consistent, Within, Greatest, greatest-line}
-
--- a list of entries as a line
-abbrev pub line-of : List ℕ → Line
-line-of xs p = getD xs p 0
+use Rattle.lines.specs.Lines.{Line, Backed, Consistent, Within}
+use Rattle.rows.specs.Answers.{line-of}
 
 -- the rows have all intervals up to the line
 abbrev pub Rows-hold : ℕ → Family → List ℕ → Type 0
@@ -33,9 +30,3 @@ pub record Lowers (N : ℕ) (F : Family) (xs ys : List ℕ) (r : Bool) : Type 0 
   pub lower : Lower N F xs ys
   pub less : r ≡ true → sum ys < sum xs
   pub stays : r ≡ false → Consistent N F (line-of ys)
-
--- the line named by its definition, and the law: it is the greatest, and the only one
-pub record Answers (N : ℕ) (F : Family) (c : Line) (L : Line) : Type 0 where
-  pub value : (p : ℕ) → L p ≡ greatest-line N F c p
-  pub greatest : Greatest N F c L
-  pub only : (K : Line) → Greatest N F c K → (p : ℕ) → p < N → K p ≡ L p

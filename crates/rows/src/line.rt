@@ -7,7 +7,8 @@ ghost use Rattle.std.specs.Orderings.{Decides};
 ghost use Rattle.std.specs.shelf.Lists.{All, sum};
 ghost use Rattle.lines.specs.Lines.{Backed, Consistent, clipped};
 ghost use Rattle.rows.specs.Tables.{processes, family};
-ghost use Rattle.rows.specs.Lowering.{line-of, Rows-hold, Front, Lower, Lowers, Answers};
+ghost use Rattle.rows.specs.Answers.{line-of, Greatest-line};
+ghost use Rattle.rows.specs.Lowering.{Rows-hold, Front, Lower, Lowers};
 use crate::table::Table;
 use records::Interval;
 
@@ -74,7 +75,7 @@ fn clip(table: &Table, counts: &[u8; 8], line: &mut [u8; 8])
 
 // The greatest line within the counts, one for each process; a count above a row's length means that length.
 pub fn greatest_line(table: &Table, counts: &[u8; 8], line: &mut [u8; 8])
-    ensures { λ _. ⌜ Answers (processes (now (table .entry))) (family (now (table .entry))) (line-of (now (counts .entry))) (line-of (now (line .exit))) ⌝ }
+    ensures { λ _. ⌜ Greatest-line (processes (now (table .entry))) (family (now (table .entry))) (line-of (now (counts .entry))) (line-of (now (line .exit))) ⌝ }
 {
     clip(table, counts, line);
     while lower(table, line) {}

@@ -1,9 +1,20 @@
 // The table of all processes: eight rows, of which the first `count` are those of processes.
 ghost use mathlib.Core.Path.{_≡_};
-ghost use Prim.Native.Nat.{_≤_};
+ghost use Prim.Native.Nat.{ℕ, _≤_};
 ghost use lib.ListN.{length};
-ghost use Rattle.rows.specs.Tables.{New, processes, family};
+ghost use Rattle.rows.specs.Tables.{New, Cut, processes, family};
+ghost use Rattle.std.specs.Options.{mapped};
+ghost use Rattle.std.specs.shelf.Maps.{nth};
+ghost use Rattle.programs.specs.Program.{Meaning};
+ghost use Rattle.lines.specs.Intervals.{waiting, by-input, by-delivery};
+ghost use Rattle.rows.specs.Answers.{as-message, line-of};
+use crate::channel::Waiting;
+use crate::channel::sent_after;
+use crate::part::first;
 use crate::row::Row;
+use crate::source::count_from;
+use crate::vector::after_delivery;
+use crate::vector::after_input;
 use programs::values::State;
 use records::Interval;
 
@@ -12,6 +23,14 @@ use records::Interval;
 pub struct Table {
     pub rows: [Row; 8],
     pub count: u8,
+}
+
+// There are eight rows: an array's length is known where the array itself is lent.
+fn row_count(rows: &[Row; 8]) -> u8
+    ensures value { λ r. ⌜ r ≡ 8 ⌝ }
+    ensures rows { λ r. ⌜ length (now (rows .entry)) ≡ 8 ⌝ }
+{
+    rows.len() as u8
 }
 
 impl Table {
@@ -25,11 +44,12 @@ impl Table {
         }
     }
 
-    // How many processes there are.
+    // How many processes there are, of the eight that there is a row for.
     pub fn processes(&self) -> u8
-        ensures { λ r. ⌜ r ≡ processes (now (self .entry)) ⌝ }
+        ensures value { λ r. ⌜ r ≡ processes (now (self .entry)) ⌝ }
+        ensures rows { λ r. ⌜ length (now (self .entry) .rows) ≡ 8 ⌝ }
     {
-        self.count.min(8)
+        self.count.min(row_count(&self.rows))
     }
 
     // The intervals of a process; what is no process has none.
@@ -42,5 +62,37 @@ impl Table {
         } else {
             &[]
         }
+    }
+
+    // Every process is cut to its entry of the line.
+    pub fn cut(&mut self, line: &[u8; 8])
+        ensures { λ _. ⌜ Cut (line-of (now (line .entry))) (now (self .entry)) (now (self .exit)) ⌝ }
+    {
+        for p in 0..self.processes() as usize {
+            self.rows[p].cut(line[p]);
+        }
+    }
+
+    // The next message that waits from `source` to `target`.
+    pub fn next_waiting(&self, source: u8, target: u8) -> Option<Waiting>
+        ensures { λ r. ⌜ mapped as-message r ≡ nth (waiting (family (now (self .entry))) source target) 0 ⌝ }
+    {
+        let taken = count_from(self.intervals(target), source);
+        sent_after(self.intervals(source), target, taken)
+    }
+
+    // The vector of the interval that an input would begin.
+    pub fn input_vector(&self, process: u8) -> [u8; 8]
+        ensures { λ r. ⌜ ((M : Meaning) (N v : ℕ) → r ≡ by-input M N process (family (now (self .entry)) process) v .vector) ⌝ }
+    {
+        after_input(self.intervals(process), process)
+    }
+
+    // The vector of the interval that the delivery of `message` would begin.
+    pub fn delivery_vector(&self, source: u8, target: u8, message: Waiting) -> [u8; 8]
+        ensures { λ r. ⌜ ((M : Meaning) (N : ℕ) → r ≡ by-delivery M N (family (now (self .entry))) source target (as-message message) .vector) ⌝ }
+    {
+        let sending = first(self.intervals(source), message.sent_at);
+        after_delivery(self.intervals(target), sending, target)
     }
 }

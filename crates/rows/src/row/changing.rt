@@ -60,7 +60,7 @@ impl Row {
         ensures { λ _. ⌜ held (now (self .exit)) ≡ resumed state (held (now (self .entry))) ⌝ }
     {
         self.up = true;
-        self.state = state;
+        self.enter(state);
     }
 
     // A step led to this state.

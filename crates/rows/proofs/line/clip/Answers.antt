@@ -8,7 +8,7 @@ use lib.ListN.{length}
 use Rattle.std.proofs.shelf.Lists.{length-set, getD-set-same, getD-set-other}
 use Rattle.std.proofs.shelf.Tests.{cases-lt}
 use Rattle.lines.specs.Lines.{clipped}
-use Rattle.rows.specs.Lowering.{line-of}
+use Rattle.rows.specs.Answers.{line-of}
 use Rattle.rows.specs.Tables.{processes, family}
 use Rattle.rows.proofs.Families.{clip-is, clip-past}
 use Rattle.rows.proofs.line.clip.Needs as need

@@ -2,7 +2,7 @@ use Prim.Native.Nat.{ℕ, _<_}
 use mathlib.Core.Path.{_≡_}
 use lib.ListN.{length}
 use Rattle.lines.specs.Lines.{clipped}
-use Rattle.rows.specs.Lowering.{line-of}
+use Rattle.rows.specs.Answers.{line-of}
 use Rattle.rows.specs.Tables.{processes, family}
 use Rattle.rows.proofs.line.clip.Given as given
 

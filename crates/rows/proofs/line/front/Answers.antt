@@ -2,7 +2,7 @@ use mathlib.Core.Path.{sym}
 use Rattle.std.proofs.shelf.Elements.{all-more}
 use Rattle.std.proofs.shelf.Tests.{both-ways}
 use Rattle.lines.specs.Lines.{Backed}
-use Rattle.rows.specs.Lowering.{line-of}
+use Rattle.rows.specs.Answers.{line-of}
 use Rattle.rows.proofs.Lowered.{front-stops, front-whole}
 use Rattle.rows.proofs.line.front.Needs as need
 

@@ -1,7 +1,7 @@
 use lib.ListN.{take}
 use Rattle.std.specs.shelf.Lists.{All}
 use Rattle.lines.specs.Lines.{Backed}
-use Rattle.rows.specs.Lowering.{line-of}
+use Rattle.rows.specs.Answers.{line-of}
 use Rattle.rows.proofs.line.front.Given as given
 
 abbrev pub Inv-loop-i : given.InvT-loop-i

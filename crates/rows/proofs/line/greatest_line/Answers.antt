@@ -1,5 +1,5 @@
 use native.Mathlib.Omega.{arith}
-use Rattle.rows.specs.Lowering.{line-of}
+use Rattle.rows.specs.Answers.{line-of}
 use Rattle.rows.specs.Tables.{processes, family}
 use Rattle.rows.proofs.Lowered.{lower-none, lower-again, rows-hold-lower, clipped-holds, answers}
 use Rattle.rows.proofs.line.greatest_line.Needs as need

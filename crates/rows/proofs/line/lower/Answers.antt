@@ -9,7 +9,7 @@ pub lower-one-requires : need.lower-one-requires
 lower-one-requires c κs =
     let t = c .args .table .now in
     record {
-      exists = omega (arith, c .processes-p-end .ensures);
+      exists = omega (arith, c .processes-p-end .ensures .value);
       rows = rows-hold-lower (processes t) (family t) (c .args .line .now) (c .loop-p .line) (c .pre) (c .loop-p .inv .lower);
     }
 
@@ -29,4 +29,4 @@ loop-p-again c =
 pub returns : need.returns
 returns c =
     let t = c .args .table .now in
-    round-all (processes t) (family t) (c .args .line .now) (c .loop-p .line) (c .loop-p .p) (c .loop-p .lowered) (omega (arith, c .processes-p-end .ensures)) (c .loop-p .inv)
+    round-all (processes t) (family t) (c .args .line .now) (c .loop-p .line) (c .loop-p .p) (c .loop-p .lowered) (omega (arith, c .processes-p-end .ensures .value)) (c .loop-p .inv)

@@ -1,17 +1,16 @@
-use borrow.Author.Needs.{needs}
-use mathlib.Core.Path.{_≡_, sym, subst, _∙_}
-use Prim.Native.Nat.{_<_, _≤_}
+use Prim.Native.Nat.{_<_}
+use mathlib.Core.Path.{sym, ap, _∙_}
 use native.Mathlib.Omega.{arith}
-use lib.ListN.{length, getD}
+use Rattle.rows.specs.Rows.{Held}
 use Rattle.rows.specs.Tables.{processes}
-use Rattle.rows.proofs.Families.{standing-at, standing-few}
+use Rattle.rows.proofs.Families.{row-at}
 use Rattle.rows.proofs.table.Table.intervals.Needs as need
 
 pub returns-then-process-processes : need.returns-then-process-processes
 returns-then-process-processes c =
-    let t = c .args .self .now in let row = c .index-self-process .result in
-    let h : c .args .process < processes t = omega (arith, c .processes .ensures) in
+    let t = c .args .self .now in
+    let h : c .args .process < processes t = omega (arith, c .processes .ensures .value) in
     record {
-      value = c .intervals .ensures ∙ sym (standing-at t (c .args .process) row (search needs) h);
-      few = subst (λ xs. length xs ≤ 96) (sym (c .intervals .ensures)) (standing-few (getD (t .rows) (c .args .process) row));
+      value = c .intervals .ensures .value ∙ ap (λ (x : Held). x .intervals) (sym (row-at t (c .args .process) (c .index-self-process .result) (c .processes .ensures .rows) h));
+      few = c .intervals .ensures .few;
     }
