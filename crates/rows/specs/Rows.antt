@@ -26,11 +26,13 @@ held row = record { intervals = standing row; saved = row .saved; up = row .up; 
 abbrev pub fresh : State → Held
 fresh s = record { intervals = []; saved = 0; up = true; state = s }
 
--- one interval more, and whether there was a place for it
+-- one interval more
+abbrev pub grown : Interval → Held → Held
+grown x h = record { intervals = h .intervals ++ (x ∷ []); saved = h .saved; up = h .up; state = h .state }
+
+-- whether there was a place for one more, and what the row then holds
 abbrev pub pushed : Interval → Held → Bool × Held
-pushed x h = cond (ltb (length (h .intervals)) 96)
-    (true, record { intervals = h .intervals ++ (x ∷ []); saved = h .saved; up = h .up; state = h .state })
-    (false, h)
+pushed x h = cond (ltb (length (h .intervals)) 96) (true, grown x h) (false, h)
 
 -- only the first n stand, and no more than that are saved
 abbrev pub cut-to : ℕ → Held → Held

@@ -15,7 +15,7 @@ use programs::values::Sends;
 use records::Interval;
 
 // A message that waits: its value, and the sender's interval in which it was sent.
-#[derive(Clone, Copy, PartialEq, Eq, Debug)]
+#[derive(Clone, Copy)]
 pub struct Waiting {
     pub value: u64,
     pub sent_at: u8,

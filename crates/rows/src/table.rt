@@ -1,8 +1,9 @@
 // The table of all processes: eight rows, of which the first `count` are those of processes.
 ghost use mathlib.Core.Path.{_≡_};
-ghost use Prim.Native.Nat.{ℕ, _≤_};
+ghost use Prim.Native.Nat.{ℕ, _≤_, _<_};
 ghost use lib.ListN.{length};
-ghost use Rattle.rows.specs.Tables.{New, Cut, processes, family};
+ghost use Rattle.rows.specs.Rows.{cut-to};
+ghost use Rattle.rows.specs.Tables.{New, Cut, processes, row-of, family};
 ghost use Rattle.std.specs.Options.{mapped};
 ghost use Rattle.std.specs.shelf.Maps.{nth};
 ghost use Rattle.programs.specs.Program.{Meaning};
@@ -52,15 +53,36 @@ impl Table {
         self.count.min(row_count(&self.rows))
     }
 
+    fn row_intervals(&self, process: u8) -> &[Interval]
+        requires exists { ⌜ process < processes (now self) ⌝ }
+        requires rows { ⌜ length (now self .rows) ≡ 8 ⌝ }
+        ensures value { λ r. ⌜ now r ≡ family (now (self .entry)) process ⌝ }
+        ensures few { λ r. ⌜ length (now r) ≤ 96 ⌝ }
+    {
+        self.rows[process as usize].intervals()
+    }
+
     // The intervals of a process; what is no process has none.
     pub fn intervals(&self, process: u8) -> &[Interval]
         ensures value { λ r. ⌜ now r ≡ family (now (self .entry)) process ⌝ }
         ensures few { λ r. ⌜ length (now r) ≤ 96 ⌝ }
     {
         if process < self.processes() {
-            self.rows[process as usize].intervals()
+            self.row_intervals(process)
         } else {
             &[]
+        }
+    }
+
+    // The first `count` processes are cut to their entries of the line.
+    fn cut_first(&mut self, count: u8, line: &[u8; 8])
+        requires processes { ⌜ count ≤ processes (now self) ⌝ }
+        requires rows { ⌜ length (now self .rows) ≡ 8 ⌝ }
+        ensures count { λ _. ⌜ now (self .exit) .count ≡ now (self .entry) .count ⌝ }
+        ensures rows { λ _. ⌜ ((p : ℕ) → p < count → row-of (now (self .exit)) p ≡ cut-to (line-of (now (line .entry)) p) (row-of (now (self .entry)) p)) ⌝ }
+    {
+        for p in 0..count as usize {
+            self.rows[p].cut(line[p]);
         }
     }
 
@@ -68,9 +90,7 @@ impl Table {
     pub fn cut(&mut self, line: &[u8; 8])
         ensures { λ _. ⌜ Cut (line-of (now (line .entry))) (now (self .entry)) (now (self .exit)) ⌝ }
     {
-        for p in 0..self.processes() as usize {
-            self.rows[p].cut(line[p]);
-        }
+        self.cut_first(self.processes(), line);
     }
 
     // The next message that waits from `source` to `target`.

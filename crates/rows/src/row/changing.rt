@@ -1,6 +1,8 @@
 // What changes a row; each method says what the whole row then holds.
 ghost use mathlib.Core.Path.{_≡_};
-ghost use Rattle.rows.specs.Rows.{held, fresh, pushed, cut-to, crashed, all-saved, resumed, at-state};
+ghost use Prim.Native.Nat.{_<_, _≤_};
+ghost use lib.ListN.{length};
+ghost use Rattle.rows.specs.Rows.{standing, held, fresh, grown, pushed, cut-to, crashed, all-saved, resumed, at-state};
 use crate::row::MOST;
 use crate::row::Row;
 use programs::values::State;
@@ -20,16 +22,31 @@ impl Row {
         }
     }
 
+    fn put(&mut self, x: Interval)
+        requires { ⌜ length (standing (now self)) < 96 ⌝ }
+        ensures { λ _. ⌜ held (now (self .exit)) ≡ grown x (held (now (self .entry))) ⌝ }
+    {
+        self.intervals[self.count as usize] = x;
+        self.count += 1;
+    }
+
     // One interval more; false where 96 stand, and then nothing changes.
     pub fn push(&mut self, x: Interval) -> bool
         ensures { λ r. ⌜ (r, held (now (self .exit))) ≡ pushed x (held (now (self .entry))) ⌝ }
     {
-        if self.count >= MOST {
+        if self.count() >= MOST {
             return false;
         }
-        self.intervals[self.count as usize] = x;
-        self.count += 1;
+        self.put(x);
         true
+    }
+
+    // Only the first `n` intervals stand, which the saved ones are among.
+    fn keep(&mut self, n: u8)
+        requires { ⌜ now self .saved ≤ n ⌝ }
+        ensures { λ _. ⌜ held (now (self .exit)) ≡ cut-to n (held (now (self .entry))) ⌝ }
+    {
+        self.count = self.count.min(n);
     }
 
     // Only the first `n` intervals stand, all of them if there are fewer; no more than that are saved.
@@ -37,14 +54,14 @@ impl Row {
         ensures { λ _. ⌜ held (now (self .exit)) ≡ cut-to n (held (now (self .entry))) ⌝ }
     {
         self.saved = self.saved.min(n);
-        self.count = self.count.min(n);
+        self.keep(n);
     }
 
     // The process goes down and loses what it has not saved.
     pub fn crash(&mut self)
         ensures { λ _. ⌜ held (now (self .exit)) ≡ crashed (held (now (self .entry))) ⌝ }
     {
-        self.count = self.saved;
+        self.cut(self.saved);
         self.up = false;
     }
 

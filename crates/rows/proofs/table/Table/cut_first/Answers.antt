@@ -9,15 +9,15 @@ use Rattle.rows.specs.Answers.{line-of}
 use Rattle.rows.specs.Rows.{cut-to}
 use Rattle.rows.specs.Tables.{processes, row-of}
 use Rattle.rows.proofs.Families.{row-at, row-changed}
-use Rattle.rows.proofs.table.Table.cut.Needs as need
+use Rattle.rows.proofs.table.Table.cut_first.Needs as need
 
 pub loop-p-holds : need.loop-p-holds
-loop-p-holds c = (refl, c .processes-p-end .ensures .rows, λ q h. absurd (omega arith), λ q h. refl)
+loop-p-holds c = (refl, c .pre .rows, λ q h. absurd (omega arith), λ q h. refl)
 
 pub loop-p-again : need.loop-p-again
 loop-p-again c =
     let t = c .loop-p .self in let p = c .loop-p .p in let row = c .cut .last .self in let inv = c .loop-p .inv in
-    let exists : p < processes t = omega (arith, c .processes-p-end .ensures .value, ap (λ n. min n 8) (inv .0)) in
+    let exists : p < processes t = omega (arith, c .pre .processes, ap (λ n. min n 8) (inv .0)) in
     let change = row-changed t p row (inv .1) exists in (
       inv .0,
       length-set (t .rows) p row ∙ inv .1,
@@ -27,4 +27,4 @@ loop-p-again c =
     )
 
 pub returns : need.returns
-returns c = record { count = c .loop-p .inv .0; rows = λ p h. c .loop-p .inv .2 p (omega (arith, c .processes-p-end .ensures .value)) }
+returns c = record { count = c .loop-p .inv .0; rows = λ p h. c .loop-p .inv .2 p (omega arith) }

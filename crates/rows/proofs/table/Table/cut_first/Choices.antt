@@ -4,7 +4,7 @@ use lib.ListN.{length}
 use Rattle.rows.specs.Answers.{line-of}
 use Rattle.rows.specs.Rows.{cut-to}
 use Rattle.rows.specs.Tables.{row-of}
-use Rattle.rows.proofs.table.Table.cut.Given as given
+use Rattle.rows.proofs.table.Table.cut_first.Given as given
 
 abbrev pub Inv-loop-p : given.InvT-loop-p
 Inv-loop-p l =
