@@ -23,6 +23,14 @@ fn next(table: &Table, source: u8, target: u8) -> Option<(u64, u8)> {
     }
 }
 
+fn next_input(table: &Table, process: u8) -> u8 {
+    table.rows[process as usize % 8].next_input()
+}
+
+fn taken(table: &Table, source: u8, process: u8) -> u8 {
+    table.rows[process as usize % 8].taken(source)
+}
+
 // Process 0 sends twice to 1 in one interval, then to 0 and to 1, then once to itself.
 fn sender() -> Result<Table, Fail> {
     let mut table = empty(2);
@@ -76,13 +84,13 @@ fn nothing_waits_where_no_process_is() -> Result<(), Fail> {
 #[test]
 fn input_numbers_count_inputs_alone() -> Result<(), Fail> {
     let mut table = sender()?;
-    check_eq(table.rows[0].next_input(), 4)?;
+    check_eq(next_input(&table, 0), 4)?;
     take(&mut table, 0, 0, 2)?;
-    check_eq(table.rows[0].next_input(), 4)?;
-    check_eq(table.rows[0].taken(0), 1)?;
+    check_eq(next_input(&table, 0), 4)?;
+    check_eq(taken(&table, 0, 0), 1)?;
     take_input(&mut table, 0)?;
-    check_eq(table.rows[0].next_input(), 5)?;
-    check_eq(table.rows[1].next_input(), 1)
+    check_eq(next_input(&table, 0), 5)?;
+    check_eq(next_input(&table, 1), 1)
 }
 
 #[test]
