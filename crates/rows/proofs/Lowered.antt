@@ -7,10 +7,10 @@ use mathlib.Core.Path.{_≡_, refl, sym, ap, subst, _∙_}
 use borrow.Author.Count.{below-more}
 use native.Mathlib.Omega.{arith}
 use lib.Dec.{ltb}
-use lib.ListN.{length, getD, take, set}
+use lib.ListN.{length, getD, take, set, replicate}
 use Rattle.std.specs.shelf.Lists.{All, sum, leading}
-use Rattle.std.proofs.shelf.Elements.{all-getD}
-use Rattle.std.proofs.shelf.Lists.{getD-take, getD-default, getD-set-same, getD-set-other, set-getD, length-take-le, take-take, take-all}
+use Rattle.std.proofs.shelf.Elements.{all-getD, all-weaker}
+use Rattle.std.proofs.shelf.Lists.{getD-take, getD-default, getD-set-same, getD-set-other, set-getD, getD-replicate, length-take-le, take-take, take-all}
 use Rattle.std.proofs.shelf.Sums.{sumBy-set}
 use Rattle.std.proofs.shelf.Tests.{cases-lt, cases-eq, cond-true, cond-false, lt-ltb, le-ltb, true≢false, false≢true}
 use Rattle.records.specs.declared.Interval.{Interval}
@@ -18,28 +18,28 @@ use Rattle.lines.specs.Intervals.{Family}
 use Rattle.lines.specs.Lines.{Line, Backed, Consistent, Within, Greatest, total, backed, lowered, rounds, clipped, greatest-line}
 use Rattle.lines.proofs.Greatest.{greatest-is-greatest, greatest-unique}
 use Rattle.rows.specs.Answers.{line-of, Greatest-line}
-use Rattle.rows.specs.Lowering.{Rows-hold, Front, Lower, Lowers}
+use Rattle.rows.specs.Lowering.{Rows-hold, Longest, Lower, Lowers, Known}
 use Rattle.rows.proofs.Finding.{blank}
 
 module _ (N : ℕ) (L : Line) (xs : List Interval) where
-  pub front-stops : (i : ℕ) (d : Interval) → i < length xs → All (Backed N L) (take i xs) → (Backed N L (getD xs i d) → ⊥) → Front N L xs i
+  pub front-stops : (i : ℕ) (d : Interval) → i < length xs → All (Backed N L) (take i xs) → (Backed N L (getD xs i d) → ⊥) → Longest N L xs i
   front-stops i d h all n = record {
     within = omega arith;
     backed = all;
     next = λ e l b. n (subst (Backed N L) (getD-default xs i e d l) b);
   }
 
-  pub front-whole : (i : ℕ) → length xs ≤ i → All (Backed N L) (take i xs) → Front N L xs (length xs)
+  pub front-whole : (i : ℕ) → length xs ≤ i → All (Backed N L) (take i xs) → Longest N L xs (length xs)
   front-whole i h all = record {
     within = omega arith;
     backed = subst (All (Backed N L)) (take-all i xs h ∙ sym (take-all (length xs) xs (omega arith))) all;
     next = λ e l b. omega arith;
   }
 
-backed-above : (N : ℕ) (K L : Line) (x : Interval) → ((q : ℕ) → q < N → K q ≤ L q) → Backed N K x → Backed N L x
+pub backed-above : (N : ℕ) (K L : Line) (x : Interval) → ((q : ℕ) → q < N → K q ≤ L q) → Backed N K x → Backed N L x
 backed-above N K L x below b s = omega (arith, b s, below (x .source) s)
 
-module _ (N : ℕ) (F : Family) (xs : List ℕ) (p n : ℕ) (exists : p < N) (place : p < length xs) (rows : line-of xs p ≤ length (F p)) (front : Front N (line-of xs) (take (line-of xs p) (F p)) n) where
+module _ (N : ℕ) (F : Family) (xs : List ℕ) (p n : ℕ) (exists : p < N) (place : p < length xs) (rows : line-of xs p ≤ length (F p)) (front : Longest N (line-of xs) (take (line-of xs p) (F p)) n) where
   lower-long : length (take (line-of xs p) (F p)) ≡ line-of xs p
   lower-long = length-take-le (line-of xs p) (F p) rows
 
@@ -86,6 +86,33 @@ module _ (N : ℕ) (F : Family) (xs : List ℕ) (p n : ℕ) (exists : p < N) (pl
         subst (λ ys. All (Backed N (line-of ys)) (take (line-of ys p) (F p))) (sym whole)
             (subst (All (Backed N (line-of xs))) (ap (λ k. take k (take (line-of xs p) (F p))) same ∙ take-take (line-of xs p) (line-of xs p) (F p) (omega arith)) (front .backed)),
       )
+
+  -- what is known stays known, and of p the new needs are
+  pub lower-known : (needs : List (List ℕ)) (new : List ℕ) → p < length needs → Known N F xs needs → All (Backed N (line-of new)) (take n (F p)) → Known N F (set xs p n) (set needs p new)
+  lower-known needs new room known backed q h = go (cases-eq q p)
+    where
+      go : (q ≡ p) ⊎ (q ≡ p → ⊥) → ((r : ℕ) → r < N → line-of (getD (set needs p new) q []) r ≤ line-of (set xs p n) r) → All (Backed N (line-of (getD (set needs p new) q []))) (take (line-of (set xs p n) q) (F q))
+      go (inl e) reach =
+          subst (λ r. All (Backed N (line-of (getD (set needs p new) r []))) (take (line-of (set xs p n) r) (F r))) (sym e)
+          (subst (λ ms. All (Backed N (line-of ms)) (take (line-of (set xs p n) p) (F p))) (sym (getD-set-same needs p new [] room)) (subst (λ k. All (Backed N (line-of new)) (take k (F p))) (sym at-process) backed))
+      go (inr a) reach =
+          let same = getD-set-other needs p q new [] a in
+          subst (λ ms. All (Backed N (line-of ms)) (take (line-of (set xs p n) q) (F q))) (sym same)
+          (subst (λ k. All (Backed N (line-of (getD needs q []))) (take k (F q))) (sym (getD-set-other xs p q n 0 a))
+          (known q h (λ r l. let b = lower-front .below r in let c = reach r l in omega (arith, ap (λ ms. line-of ms r) same))))
+
+-- a front whose needs the line reaches is backed
+pub known-backed : (N : ℕ) (F : Family) (xs : List ℕ) (needs : List (List ℕ)) (p : ℕ) → p < N → Known N F xs needs → ((q : ℕ) → q < N → line-of (getD needs p []) q ≤ line-of xs q) → All (Backed N (line-of xs)) (take (line-of xs p) (F p))
+known-backed N F xs needs p h known reach =
+    all-weaker (Backed N (line-of (getD needs p []))) (Backed N (line-of xs)) (λ x. backed-above N (line-of (getD needs p [])) (line-of xs) x reach) (take (line-of xs p) (F p)) (known p h reach)
+
+-- of needs that no line reaches nothing is said
+pub known-none : (N : ℕ) (F : Family) (xs : List ℕ) → N ≤ 8 → ((p : ℕ) → line-of xs p ≤ 96) → Known N F xs (replicate 8 (replicate 8 255))
+known-none N F xs eight few p h reach =
+    absurd (let r : line-of (getD (replicate 8 (replicate 8 255)) p []) 0 ≤ line-of xs 0 = reach 0 (omega arith) in
+    let row : getD (replicate 8 (replicate 8 255)) p [] ≡ replicate 8 255 = getD-replicate 8 p (replicate 8 255) [] (omega arith) in
+    let top : line-of (getD (replicate 8 (replicate 8 255)) p []) 0 ≡ 255 = ap (λ ms. line-of ms 0) row in
+    omega (arith, few 0))
 
 pub lower-none : (N : ℕ) (F : Family) (xs : List ℕ) → Lower N F xs xs
 lower-none N F xs = record { below = λ p. omega arith; keeps = λ K consistent within. within }

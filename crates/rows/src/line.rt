@@ -8,7 +8,7 @@ ghost use Rattle.std.specs.shelf.Lists.{All, sum};
 ghost use Rattle.lines.specs.Lines.{Backed, Consistent, clipped};
 ghost use Rattle.rows.specs.Tables.{processes, family};
 ghost use Rattle.rows.specs.Answers.{line-of, Greatest-line};
-ghost use Rattle.rows.specs.Lowering.{Rows-hold, Front, Lower, Lowers};
+ghost use Rattle.rows.specs.Lowering.{Rows-hold, Longest, Lower, Lowers, Known};
 use crate::table::Table;
 use records::Interval;
 
@@ -20,43 +20,94 @@ fn is_backed(x: &Interval, line: &[u8; 8], count: u8) -> bool
     x.source >= count || x.sent_at <= line[x.source as usize]
 }
 
-// How many intervals stand before the first that the line does not back.
-fn front(xs: &[Interval], line: &[u8; 8], count: u8) -> u8
+// The longest front of a process that a line backs: how many intervals, and a line that they need.
+#[derive(Clone, Copy)]
+struct Found {
+    length: u8,
+    needs: [u8; 8],
+}
+
+// The interval needs its sender up to the sent-at.
+fn raise(needs: &mut [u8; 8], x: &Interval)
+    ensures above { λ _. ⌜ ((q : ℕ) → line-of (now (needs .entry)) q ≤ line-of (now (needs .exit)) q) ⌝ }
+    ensures backed { λ _. ⌜ ((N : ℕ) → N ≤ 8 → Backed N (line-of (now (needs .exit))) (now (x .entry))) ⌝ }
+{
+    if x.source < 8 {
+        let at = x.source as usize;
+        needs[at] = needs[at].max(x.sent_at);
+    }
+}
+
+// The intervals before the first that the line does not back.
+fn front(xs: &[Interval], line: &[u8; 8], count: u8) -> Found
     requires few { ⌜ length (now xs) ≤ 96 ⌝ }
     requires eight { ⌜ count ≤ 8 ⌝ }
-    ensures { λ r. ⌜ Front count (line-of (now (line .entry))) (now (xs .entry)) r ⌝ }
+    ensures longest { λ r. ⌜ Longest count (line-of (now (line .entry))) (now (xs .entry)) (r .length) ⌝ }
+    ensures needs { λ r. ⌜ All (Backed count (line-of (r .needs))) (take (r .length) (now (xs .entry))) ⌝ }
 {
+    let mut needs = [0; 8];
     for (i, x) in xs.iter().enumerate() {
         if !is_backed(x, line, count) {
-            return i as u8;
+            return Found {
+                length: i as u8,
+                needs,
+            };
+        }
+        raise(&mut needs, x);
+    }
+    Found {
+        length: xs.len() as u8,
+        needs,
+    }
+}
+
+// Whether the line is nowhere below what is needed.
+fn reaches(line: &[u8; 8], needs: &[u8; 8], count: u8) -> bool
+    requires { ⌜ count ≤ 8 ⌝ }
+    ensures { λ r. ⌜ Decides r ((q : ℕ) → q < count → line-of (now (needs .entry)) q ≤ line-of (now (line .entry)) q) ⌝ }
+{
+    for q in 0..count as usize {
+        if needs[q] > line[q] {
+            return false;
         }
     }
-    xs.len() as u8
+    true
 }
 
 // One process goes back to the longest front that the line backs; says whether that is lower.
-fn lower_one(table: &Table, process: u8, line: &mut [u8; 8]) -> bool
+// Its intervals are read only where the line has fallen below what they are known to need.
+fn lower_one(table: &Table, process: u8, line: &mut [u8; 8], needs: &mut [[u8; 8]; 8]) -> bool
     requires exists { ⌜ process < processes (now table) ⌝ }
     requires rows { ⌜ Rows-hold (processes (now table)) (family (now table)) (now line) ⌝ }
+    requires known { ⌜ Known (processes (now table)) (family (now table)) (now line) (now needs) ⌝ }
     ensures lower { λ r. ⌜ Lower (processes (now (table .entry))) (family (now (table .entry))) (now (line .entry)) (now (line .exit)) ⌝ }
     ensures less { λ r. ⌜ (r ≡ true → sum (now (line .exit)) < sum (now (line .entry))) ⌝ }
     ensures stays { λ r. ⌜ (r ≡ false → (now (line .exit) ≡ now (line .entry)) × All (Backed (processes (now (table .entry))) (line-of (now (line .exit)))) (take (line-of (now (line .exit)) process) (family (now (table .entry)) process))) ⌝ }
+    ensures known { λ r. ⌜ Known (processes (now (table .entry))) (family (now (table .entry))) (now (line .exit)) (now (needs .exit)) ⌝ }
 {
+    let count = table.processes();
+    let known = needs[process as usize];
+    if reaches(line, &known, count) {
+        return false;
+    }
     let stands = line[process as usize];
-    let xs = &table.intervals(process)[0..stands as usize];
-    let backed = front(xs, line, table.processes());
-    line[process as usize] = backed;
-    backed < stands
+    let found = front(&table.intervals(process)[0..stands as usize], line, count);
+    line[process as usize] = found.length;
+    let needed = found.needs;
+    needs[process as usize] = needed;
+    found.length < stands
 }
 
-// One round: every process goes back to the longest front that the line then backs; says whether one did.
-fn lower(table: &Table, line: &mut [u8; 8]) -> bool
-    requires { ⌜ Rows-hold (processes (now table)) (family (now table)) (now line) ⌝ }
-    ensures { λ r. ⌜ Lowers (processes (now (table .entry))) (family (now (table .entry))) (now (line .entry)) (now (line .exit)) r ⌝ }
+// One round over all processes; says whether one went back.
+fn lower(table: &Table, line: &mut [u8; 8], needs: &mut [[u8; 8]; 8]) -> bool
+    requires rows { ⌜ Rows-hold (processes (now table)) (family (now table)) (now line) ⌝ }
+    requires known { ⌜ Known (processes (now table)) (family (now table)) (now line) (now needs) ⌝ }
+    ensures lowers { λ r. ⌜ Lowers (processes (now (table .entry))) (family (now (table .entry))) (now (line .entry)) (now (line .exit)) r ⌝ }
+    ensures known { λ r. ⌜ Known (processes (now (table .entry))) (family (now (table .entry))) (now (line .exit)) (now (needs .exit)) ⌝ }
 {
     let mut lowered = false;
     for p in 0..table.processes() {
-        if lower_one(table, p, line) {
+        if lower_one(table, p, line, needs) {
             lowered = true;
         }
     }
@@ -65,7 +116,8 @@ fn lower(table: &Table, line: &mut [u8; 8]) -> bool
 
 // The counts, cut to the rows' lengths.
 fn clip(table: &Table, counts: &[u8; 8], line: &mut [u8; 8])
-    ensures { λ _. ⌜ ((p : ℕ) → line-of (now (line .exit)) p ≡ clipped (processes (now (table .entry))) (family (now (table .entry))) (line-of (now (counts .entry))) p) ⌝ }
+    ensures few { λ _. ⌜ ((p : ℕ) → line-of (now (line .exit)) p ≤ 96) ⌝ }
+    ensures value { λ _. ⌜ ((p : ℕ) → line-of (now (line .exit)) p ≡ clipped (processes (now (table .entry))) (family (now (table .entry))) (line-of (now (counts .entry))) p) ⌝ }
 {
     for p in 0..8u8 {
         let stand = table.intervals(p).len() as u8;
@@ -78,5 +130,7 @@ pub fn greatest_line(table: &Table, counts: &[u8; 8], line: &mut [u8; 8])
     ensures { λ _. ⌜ Greatest-line (processes (now (table .entry))) (family (now (table .entry))) (line-of (now (counts .entry))) (line-of (now (line .exit))) ⌝ }
 {
     clip(table, counts, line);
-    while lower(table, line) {}
+    // no line comes up to 255, so that each row is read once
+    let mut needs = [[255; 8]; 8];
+    while lower(table, line, &mut needs) {}
 }

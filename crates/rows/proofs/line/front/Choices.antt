@@ -5,4 +5,4 @@ use Rattle.rows.specs.Answers.{line-of}
 use Rattle.rows.proofs.line.front.Given as given
 
 abbrev pub Inv-loop-i : given.InvT-loop-i
-Inv-loop-i l = All (Backed (l .count) (line-of (l .line))) (take (l .i) (l .xs))
+Inv-loop-i l = All (Backed (l .count) (line-of (l .line))) (take (l .i) (l .xs)) × All (Backed (l .count) (line-of (l .needs))) (take (l .i) (l .xs))
