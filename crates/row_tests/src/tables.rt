@@ -5,12 +5,12 @@ use records::Interval;
 use rows::table::Table;
 use std::test::*;
 
-pub fn empty(count: u8) -> Table {
+pub(crate) fn empty(count: u8) -> Table {
     Table::new(count, State::ZERO)
 }
 
 // One more interval of `process`, of which only the source and the sent-at matter.
-pub fn take(table: &mut Table, process: u8, source: u8, sent_at: u8) -> Result<(), Fail> {
+pub(crate) fn take(table: &mut Table, process: u8, source: u8, sent_at: u8) -> Result<(), Fail> {
     add(
         table,
         process,
@@ -22,12 +22,12 @@ pub fn take(table: &mut Table, process: u8, source: u8, sent_at: u8) -> Result<(
     )
 }
 
-pub fn take_input(table: &mut Table, process: u8) -> Result<(), Fail> {
+pub(crate) fn take_input(table: &mut Table, process: u8) -> Result<(), Fail> {
     take(table, process, OUTSIDE, 0)
 }
 
 // One more interval of `process`, under its process and index.
-pub fn add(table: &mut Table, process: u8, x: Interval) -> Result<(), Fail> {
+pub(crate) fn add(table: &mut Table, process: u8, x: Interval) -> Result<(), Fail> {
     if process >= 8 {
         return Err(Fail::new("there are eight rows"));
     }
