@@ -46,6 +46,20 @@ pub struct Record {
     pub content: Content,
 }
 
+impl Interval {
+    // What a row's place holds before anything is written to it.
+    pub const EMPTY: Interval = Interval {
+        process: 0,
+        index: 0,
+        source: 0,
+        sent_at: 0,
+        value: 0,
+        sends: Sends::Nothing,
+        output: None,
+        vector: [0; 8],
+    };
+}
+
 impl Record {
     // What a slot holds before anything is written to it.
     pub const EMPTY: Record = Record {

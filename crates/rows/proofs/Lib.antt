@@ -1,0 +1,4 @@
+mod Standing
+mod Families
+mod Finding
+mod Lowered
