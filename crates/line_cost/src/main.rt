@@ -1,10 +1,10 @@
 // Finds the greatest line of eight full rows as often as is asked; bench/lines.sh counts the instructions of it.
 use programs::values::State;
 use records::Interval;
-use rows::line::greatest_line;
-use rows::table::Table;
 use std::env;
 use std::error::AnyError;
+use tables::line::greatest_line;
+use tables::table::Table;
 
 // Interval i of each process took what the next process sent in its interval i.
 // The last one took what the first sent: in a ring in its interval i + 1, of which the last was never, else in its interval 0.

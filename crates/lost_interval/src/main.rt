@@ -8,10 +8,10 @@ use programs::orders::STOCK;
 use programs::program::Program;
 use programs::values::OUTSIDE;
 use records::Interval;
-use rows::channel::Waiting;
-use rows::line::greatest_line;
-use rows::table::Table;
 use std::error::AnyError;
+use tables::channel::Waiting;
+use tables::line::greatest_line;
+use tables::table::Table;
 
 const NAMES: [&str; 3] = ["intake", "stock", "dispatch"];
 

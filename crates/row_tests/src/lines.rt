@@ -1,11 +1,11 @@
 // Greatest lines: chains of orphans, domino effects, and a comparison with all lines of small tables.
-use crate::tables::empty;
-use crate::tables::take;
-use crate::tables::take_input;
+use crate::building::empty;
+use crate::building::take;
+use crate::building::take_input;
 use programs::values::OUTSIDE;
-use rows::line::greatest_line;
-use rows::table::Table;
 use std::test::*;
+use tables::line::greatest_line;
+use tables::table::Table;
 
 fn line_within(table: &Table, counts: [u8; 8]) -> [u8; 8] {
     let mut line = [255; 8];

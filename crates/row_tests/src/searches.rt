@@ -1,15 +1,15 @@
 // What waits between processes, expected input numbers, and vectors.
-use crate::tables::add;
-use crate::tables::empty;
-use crate::tables::take;
-use crate::tables::take_input;
+use crate::building::add;
+use crate::building::empty;
+use crate::building::take;
+use crate::building::take_input;
 use programs::values::OUTSIDE;
 use programs::values::Send;
 use programs::values::Sends;
 use records::Interval;
-use rows::channel::Waiting;
-use rows::table::Table;
 use std::test::*;
+use tables::channel::Waiting;
+use tables::table::Table;
 
 fn send(target: u8, value: u64) -> Send {
     Send { target, value }

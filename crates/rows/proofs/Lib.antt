@@ -1,4 +1,2 @@
 mod Standing
-mod Families
-mod Finding
-mod Lowered
+pub mod Finding

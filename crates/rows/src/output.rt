@@ -2,7 +2,7 @@
 ghost use mathlib.Core.Path.{_≡_};
 ghost use Rattle.std.specs.shelf.Maps.{nth};
 ghost use Rattle.lines.specs.Intervals.{outputs};
-ghost use Rattle.rows.specs.Answers.{nth-output};
+ghost use Rattle.rows.specs.Outputs.{nth-output};
 use records::Interval;
 
 // The output that `skip` others come before.

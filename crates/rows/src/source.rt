@@ -5,7 +5,7 @@ ghost use lib.ListN.{length};
 ghost use Rattle.lines.specs.Intervals.{taken};
 use records::Interval;
 
-pub(crate) fn count_from(xs: &[Interval], source: u8) -> usize
+pub fn count_from(xs: &[Interval], source: u8) -> usize
     ensures value { λ r. ⌜ r ≡ taken source (now (xs .entry)) ⌝ }
     ensures bound { λ r. ⌜ r ≤ length (now (xs .entry)) ⌝ }
 {

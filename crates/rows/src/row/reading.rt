@@ -3,7 +3,7 @@ ghost use mathlib.Core.Path.{_≡_};
 ghost use Prim.Native.Nat.{_≤_};
 ghost use lib.ListN.{length, take};
 ghost use Rattle.lines.specs.Intervals.{taken, next-input};
-ghost use Rattle.rows.specs.Answers.{nth-output};
+ghost use Rattle.rows.specs.Outputs.{nth-output};
 ghost use Rattle.rows.specs.Rows.{standing, held};
 use crate::output::nth_output;
 use crate::part::first;

@@ -1,0 +1,4 @@
+pub mod channel;
+pub mod line;
+pub mod table;
+mod vector;
