@@ -1,11 +1,10 @@
 -- The searches by number: what comes at a place of a list that is made of others.
 use Prim.Native.Nat.{ℕ, zero, suc, _≤_, _<_, _-_, _+_}
 use mathlib.Core.List.{List, [], _∷_, _++_, map}
-use mathlib.Core.Path.{_≡_, refl, sym, ap, subst, _∙_}
+use mathlib.Core.Path.{_≡_, refl, sym, ap, _∙_}
 use native.Mathlib.Omega.{arith}
 use lib.Dec.{eqb}
 use lib.ListN.{length, getD, drop, take}
-use Rattle.std.specs.Iters.{folded}
 use Rattle.std.specs.Options.{mapped}
 use Rattle.std.specs.declared.option.Option.{Option}
 use Rattle.std.specs.declared.option.Option.the-variants.{Some, None}
@@ -18,7 +17,7 @@ use Rattle.programs.specs.declared.values.Send.{Send}
 use Rattle.programs.specs.declared.values.Sends.{Sends}
 use Rattle.programs.specs.declared.values.Sends.the-variants.{Nothing}
 use Rattle.records.specs.declared.Interval.{Interval}
-use Rattle.lines.specs.Intervals.{Message, sent-in, no-vector, vector-after}
+use Rattle.lines.specs.Intervals.{sent-in, no-vector, vector-after}
 
 -- any interval, where a read wants one
 abbrev pub blank : Interval

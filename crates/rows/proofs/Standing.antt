@@ -1,19 +1,13 @@
--- The intervals of a row that stand, before and after a change.
+-- A front of a front.
 use Prim.Native.Nat.{ℕ, _≤_, _<_, min}
 use mathlib.Core.List.{List}
 use mathlib.Core.Logic.{_⊎_, inl, inr}
 use mathlib.Core.Path.{_≡_, sym, ap, _∙_}
 use native.Mathlib.Omega.{arith}
-use lib.ListN.{length, take}
-use Rattle.std.proofs.shelf.Lists.{length-take, length-take-le, take-take, take-all}
+use lib.ListN.{take}
+use Rattle.std.proofs.shelf.Lists.{length-take, take-take, take-all}
 use Rattle.std.proofs.shelf.Tests.{cases-lt}
-use Rattle.rows.specs.Rows.{standing}
-use Rattle.rows.specs.declared.row.Row.{Row}
 
-pub length-standing : (row : Row) → length (standing row) ≡ row .count
-length-standing row = let h : row .count ≤ length (row .intervals) = omega (arith, row .long, row .few) in length-take-le (row .count) (row .intervals) h
-
--- a front of a front
 pub take-min : {X : Type 0} (m n : ℕ) (xs : List X) → take (min m n) xs ≡ take n (take m xs)
 take-min m n xs = go (cases-lt n m)
   where

@@ -1,7 +1,7 @@
 -- What a table holds, by process number.
 use Prim.Native.Nat.{ℕ, _<_, min}
 use mathlib.Core.Bool.{false, cond}
-use mathlib.Core.List.{List, [], map}
+use mathlib.Core.List.{[], map}
 use mathlib.Core.Path.{_≡_}
 use lib.Dec.{ltb}
 use lib.ListN.{getD, replicate}

@@ -5,7 +5,7 @@ ghost use Prim.Native.Nat.{ℕ, _≤_, _<_};
 ghost use lib.ListN.{length, take};
 ghost use Rattle.std.specs.Orderings.{Decides};
 ghost use Rattle.std.specs.shelf.Lists.{All, sum};
-ghost use Rattle.lines.specs.Lines.{Backed, Consistent, clipped};
+ghost use Rattle.lines.specs.Lines.{Backed, clipped};
 ghost use Rattle.tables.specs.Tables.{processes, family};
 ghost use Rattle.tables.specs.Answers.{line-of, Greatest-line};
 ghost use Rattle.tables.specs.Lowering.{Rows-hold, Longest, Lower, Lowers, Known};

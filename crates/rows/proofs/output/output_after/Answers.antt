@@ -1,6 +1,5 @@
-use Prim.Native.Nat.{_≤_, _<_, _-_}
-use mathlib.Core.List.{[]}
-use mathlib.Core.Path.{_≡_, sym, ap, subst, _∙_}
+use Prim.Native.Nat.{_-_}
+use mathlib.Core.Path.{_≡_, sym, ap, _∙_}
 use native.Mathlib.Omega.{arith}
 use lib.ListN.{length, getD, drop}
 use Rattle.std.specs.Vec.{listOf}

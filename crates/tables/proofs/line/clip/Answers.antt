@@ -1,8 +1,7 @@
 use Prim.Native.Nat.{ℕ, min, _<_}
-use mathlib.Core.Logic.{_⊎_, inl, inr, _≢_}
+use mathlib.Core.Logic.{inl, inr, _≢_}
 use mathlib.Core.Path.{_≡_, ap, _∙_}
 use borrow.Author.Count.{below-more}
-use borrow.Author.Needs.{needs}
 use native.Mathlib.Omega.{arith}
 use lib.ListN.{length}
 use Rattle.std.proofs.shelf.Lists.{length-set, getD-past, getD-set-same, getD-set-other}

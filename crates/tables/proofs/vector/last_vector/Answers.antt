@@ -1,9 +1,6 @@
 use mathlib.Core.Path.{sym, ap}
 use borrow.Author.Needs.{needs}
-use native.Mathlib.Omega.{arith}
-use lib.ListN.{length}
 use Rattle.std.proofs.shelf.Lists.{nil-from-length}
-use Rattle.std.proofs.shelf.Tests.{eqb-true, eqb-false}
 use Rattle.lines.specs.Intervals.{vector-after}
 use Rattle.rows.proofs.Finding.{blank, vector-last}
 use Rattle.tables.proofs.vector.last_vector.Needs as need

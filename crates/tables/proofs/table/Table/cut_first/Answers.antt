@@ -1,13 +1,12 @@
-use Prim.Native.Nat.{ℕ, _<_, min}
+use Prim.Native.Nat.{_<_, min}
 use mathlib.Core.Logic.{_≢_}
-use mathlib.Core.Path.{_≡_, refl, sym, ap, _∙_}
+use mathlib.Core.Path.{refl, sym, ap, _∙_}
 use borrow.Author.Count.{below-more}
 use native.Mathlib.Omega.{arith}
-use lib.ListN.{length}
 use Rattle.std.proofs.shelf.Lists.{length-set}
 use Rattle.tables.specs.Answers.{line-of}
 use Rattle.rows.specs.Rows.{cut-to}
-use Rattle.tables.specs.Tables.{processes, row-of}
+use Rattle.tables.specs.Tables.{processes}
 use Rattle.tables.proofs.Families.{row-at, row-changed}
 use Rattle.tables.proofs.table.Table.cut_first.Needs as need
 
