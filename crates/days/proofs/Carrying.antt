@@ -37,12 +37,12 @@ module _ (e : Entry) (a b c : Shop) (first : Advanced orders (input e) (a .run) 
     );
   }
 
-  pub carries : (limit : ℕ) (r : Result (Unit {0}) RunError) → Settles orders limit (b .run) (c .run) r → Carries e a c r
+  pub carries : (limit : ℕ) (r : Result (Unit {0}) RunError) → Settles orders limit (b .run) (c .run) r → Carries limit e a c r
   carries limit (Ok _) s = (s .0, (carried (s .0) (s .1 .0), s .1 .2))
   carries limit (Err ProcessCount) s = s
   carries limit (Err NoSuchProcess) s = s
   carries limit (Err NothingWaiting) s = s
-  carries limit (Err Unsettled) s = (s .0, (carried (s .0) (s .1 .0), s .1 .2))
+  carries limit (Err Unsettled) s = (s .0, (carried (s .0) (s .1 .0), s .1 .1, s .1 .2))
   carries limit (Err Memory) s = inr (s .0, carried (s .0) (s .1 .0))
 
 pub longer : (before after : List Output) (os : List Output) → after ≡ before ++ os → length before ≤ length after

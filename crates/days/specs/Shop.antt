@@ -1,8 +1,9 @@
 -- What an entry does to the run of the order program.
-use Prim.Native.Nat.{ℕ}
+use Prim.Native.Nat.{ℕ, _-_, _^_}
 use mathlib.Core.List.{List, [], _∷_, _++_}
 use mathlib.Core.Logic.{_⊎_}
 use mathlib.Core.Path.{_≡_}
+use lib.ListN.{length}
 use Rattle.std.specs.Of.Vec.{vec-items}
 use Rattle.std.specs.declared.alloc.Global.{Global}
 use Rattle.std.specs.declared.result.Result.{Result}
@@ -63,14 +64,18 @@ Puts e a b (Err NothingWaiting) = ⊥
 Puts e a b (Err Unsettled) = ⊥
 Puts e a b (Err Memory) = Unchanged (a .run) (b .run)
 
--- an entry is carried until nothing waits; want of memory stops it before its input or after it
-abbrev pub Carries : Entry → Shop → Shop → Result (Unit {0}) RunError → Type 0
-Carries e a b (Ok _) = (ms : List Move) × (Carried e ms a b × Quiet (standing b))
-Carries e a b (Err ProcessCount) = ⊥
-Carries e a b (Err NoSuchProcess) = ⊥
-Carries e a b (Err NothingWaiting) = ⊥
-Carries e a b (Err Unsettled) = (ms : List Move) × (Carried e ms a b × (Quiet (standing b) → ⊥))
-Carries e a b (Err Memory) = Unchanged (a .run) (b .run) ⊎ ((ms : List Move) × Carried e ms a b)
+-- an entry is carried until nothing waits, or until so many deliveries were too few; want of memory stops it before its input or after it
+abbrev pub Carries : ℕ → Entry → Shop → Shop → Result (Unit {0}) RunError → Type 0
+Carries limit e a b (Ok _) = (ms : List Move) × (Carried e ms a b × Quiet (standing b))
+Carries limit e a b (Err ProcessCount) = ⊥
+Carries limit e a b (Err NoSuchProcess) = ⊥
+Carries limit e a b (Err NothingWaiting) = ⊥
+Carries limit e a b (Err Unsettled) = (ms : List Move) × (Carried e ms a b × (length ms ≡ limit) × (Quiet (standing b) → ⊥))
+Carries limit e a b (Err Memory) = Unchanged (a .run) (b .run) ⊎ ((ms : List Move) × Carried e ms a b)
+
+-- more deliveries than any program of ours ever needs
+abbrev pub most : ℕ
+most = 2 ^ 64 - 1
 
 -- what is told is what came out for the entry, and what is on the shelf then
 abbrev pub Told : Entry → Shop → Shop → List Event → Type 0
@@ -78,5 +83,5 @@ Told e a b events = (os : List Output) × ((issued b ≡ issued a ++ os) × (eve
 
 -- playing an entry is carrying it and telling of it; want of memory may come after it was carried
 abbrev pub Plays : Entry → Shop → Shop → Result (Vec Event Global) RunError → Type 0
-Plays e a b (Ok events) = Carries e a b (Ok tt) × Told e a b (vec-items events)
-Plays e a b (Err why) = Carries e a b (Err why) ⊎ ((why ≡ Memory) × Carries e a b (Ok tt))
+Plays e a b (Ok events) = Carries most e a b (Ok tt) × Told e a b (vec-items events)
+Plays e a b (Err why) = Carries most e a b (Err why) ⊎ ((why ≡ Memory) × Carries most e a b (Ok tt))

@@ -1,6 +1,6 @@
 // Opening a shop, and what it does with an entry.
 ghost use mathlib.Core.Path.{_≡_};
-ghost use Rattle.days.specs.Shop.{Opens, Puts, Carries, Plays, pieces-left};
+ghost use Rattle.days.specs.Shop.{Opens, Puts, Carries, Plays, most, pieces-left};
 use crate::entry::Entry;
 use crate::event::Event;
 use crate::event::tell;
@@ -43,12 +43,18 @@ impl Shop {
         }
     }
 
-    // Puts the entry in, and delivers what follows from it.
-    pub fn carry(&mut self, entry: Entry) -> Result<(), RunError>
-        ensures { λ r. ⌜ Carries entry (now (self .entry)) (now (self .exit)) r ⌝ }
+    fn carry_within(&mut self, entry: Entry, limit: u64) -> Result<(), RunError>
+        ensures { λ r. ⌜ Carries limit entry (now (self .entry)) (now (self .exit)) r ⌝ }
     {
         self.put_in(entry)?;
-        self.run.settle(u64::MAX)
+        self.run.settle(limit)
+    }
+
+    // Puts the entry in, and delivers what follows from it.
+    pub fn carry(&mut self, entry: Entry) -> Result<(), RunError>
+        ensures { λ r. ⌜ Carries most entry (now (self .entry)) (now (self .exit)) r ⌝ }
+    {
+        self.carry_within(entry, u64::MAX)
     }
 
     // Carries the entry, and tells what was done.

@@ -1,5 +1,0 @@
-use Rattle.days.proofs.Carrying.{carries}
-use Rattle.days.proofs.shop.Shop.carry.Needs as need
-
-pub returns : need.returns
-returns c = carries (c .args .entry) (c .args .self .now) (c .put-in .last .self) _ (c .in-Continue-put-in .ensures tt) _ (c .settle .result) (c .settle .ensures)
