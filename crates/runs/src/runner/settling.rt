@@ -5,8 +5,8 @@ use crate::runner::Runner;
 use programs::program::Program;
 
 impl<P: Program> Runner<P> {
-    // Delivers what waits, the oldest first, until nothing waits; refused if `limit` deliveries are too few for that.
-    pub fn settle(&mut self, limit: u64) -> Result<(), RunError>
+    // Delivers the oldest message that waits, again and again, `limit` times at most.
+    fn deliver_oldest(&mut self, limit: u64) -> Result<(), RunError>
         ensures { λ r. ⌜ Settles (P·Program .means (now (self .entry) .program)) limit (now (self .entry)) (now (self .exit)) r ⌝ }
     {
         for _ in 0..limit {
@@ -20,5 +20,12 @@ impl<P: Program> Runner<P> {
         } else {
             Err(RunError::Unsettled)
         }
+    }
+
+    // Delivers until nothing waits; refused if `limit` deliveries are too few for that.
+    pub fn settle(&mut self, limit: u64) -> Result<(), RunError>
+        ensures { λ r. ⌜ Settles (P·Program .means (now (self .entry) .program)) limit (now (self .entry)) (now (self .exit)) r ⌝ }
+    {
+        self.deliver_oldest(limit)
     }
 }

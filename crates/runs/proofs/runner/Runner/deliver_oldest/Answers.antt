@@ -10,7 +10,7 @@ use Rattle.std.proofs.shelf.Tests.{eqb-true, eqb-false}
 use Rattle.std.proofs.shelf.Results.{err-from-errBy}
 use Rattle.runs.specs.Run.{moved}
 use Rattle.runs.proofs.Settling.{delivered-none, delivered-more, quiet-none, still-waits, settles-refused}
-use Rattle.runs.proofs.runner.Runner.settle.Needs as need
+use Rattle.runs.proofs.runner.Runner.deliver_oldest.Needs as need
 
 pub loop-holds : need.loop-holds
 loop-holds g c = ([], (delivered-none (g .P·Program .means (c .args .self .now .program)) (c .args .self .now), refl))
