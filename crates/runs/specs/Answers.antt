@@ -18,7 +18,7 @@ use Rattle.runs.specs.declared.runner.Runner.{Runner}
 
 -- a runner of N processes, 1 to 8, is at the beginning of a run; want of memory can always be
 abbrev pub Begins : {P : Type 0} → Meaning → P → ℕ → Result (Runner P) RunError → Type 0
-Begins M program N (Ok r) = (r .program ≡ program) × (count r ≡ N) × Fresh M N (configuration r) × (vec-items (r .outputs) ≡ [])
+Begins M program N (Ok r) = (r .program ≡ program) × (count r ≡ N) × Fresh M N (configuration r) × (vec-items (r .outputs) ≡ []) × (1 ≤ N) × (N ≤ 8)
 Begins M program N (Err ProcessCount) = (N < 1) ⊎ (8 < N)
 Begins M program N (Err NoSuchProcess) = ⊥
 Begins M program N (Err Unsettled) = ⊥
