@@ -1,4 +1,5 @@
 // Frames and the byte store, on examples.
+#![tactic(auto)]
 #[cfg(test)]
 mod bytes;
 #[cfg(test)]

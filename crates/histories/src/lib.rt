@@ -1,4 +1,5 @@
 // What each call of a host means, and the theorem on every history of calls.
+#![tactic(auto)]
 ghost use Rattle.histories.specs.Scripts.{Scripts};
 ghost use Rattle.histories.specs.Theorem.{EveryHistory};
 

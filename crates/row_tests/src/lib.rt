@@ -1,4 +1,5 @@
 // Tests of rows, tables, searches and lines on worked examples.
+#![tactic(auto)]
 #[cfg(test)]
 mod building;
 #[cfg(test)]

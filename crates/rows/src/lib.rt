@@ -1,3 +1,4 @@
+#![tactic(auto)]
 mod output;
 pub mod part;
 pub mod row;

@@ -1,4 +1,5 @@
 // Tests of programs, runs and days on worked examples.
+#![tactic(auto)]
 #[cfg(test)]
 mod days;
 #[cfg(test)]

@@ -1,2 +1,3 @@
 // Runs without failure, carried out step by step.
+#![tactic(auto)]
 pub mod runner;

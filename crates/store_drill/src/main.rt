@@ -1,4 +1,5 @@
 // Shows what a loss of power at a sync leaves of a store's records.
+#![tactic(auto)]
 mod drill;
 mod samples;
 

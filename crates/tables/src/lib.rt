@@ -1,3 +1,4 @@
+#![tactic(auto)]
 pub mod channel;
 pub mod line;
 pub mod table;
