@@ -7,7 +7,7 @@ returns-in-None c =
     let front = c.in-Some.ensures.cases in
     no_stock c.args.line.now c.in-Some.text.now (front.1.1 ∙ ap (λ t. codes "stock " ++ t) (sym front.2)) c.in-None.ensures
 
-pub returns-in-None-read-order : goal.returns-in-None-read-order
-returns-in-None-read-order c =
-    let front = c.in-Some-strip-prefix.ensures.cases in
-    no_order c.args.line.now c.in-Some-strip-prefix.text.now (front.1.1 ∙ ap (λ t. codes "order " ++ t) (sym front.2)) c.in-None-read-order.ensures
+pub returns-in-None-read_order : goal.returns-in-None-read_order
+returns-in-None-read_order c =
+    let front = c.in-Some-strip_prefix.ensures.cases in
+    no_order c.args.line.now c.in-Some-strip_prefix.text.now (front.1.1 ∙ ap (λ t. codes "order " ++ t) (sym front.2)) c.in-None-read_order.ensures

@@ -16,4 +16,4 @@ pub returns : goal.returns
 returns c =
     let f = event_of c.args.wanted c.args.shelf in
     let all = take_all c.loop-output.output-index c.args.outputs.now c.loop-output-test.false in
-    c.in-ok-push-2.ensures.items ∙ ap (λ es. es ++ (Left (record { shelf = c.args.shelf }) ∷ [])) (c.loop-output.invariant ∙ ap (map f) all)
+    c.in_ok-push-2.ensures.items ∙ ap (λ es. es ++ (Left (record { shelf = c.args.shelf }) ∷ [])) (c.loop-output.invariant ∙ ap (map f) all)

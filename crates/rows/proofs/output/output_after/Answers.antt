@@ -5,7 +5,7 @@ use Rattle.records.specs.declared.Interval.{Interval}
 use Rattle.lines.specs.Intervals.{outputs}
 use Rattle.rows.proofs.Finding.{blank, search_here, search_on, search_none}
 use Rattle.rows.proofs.output.output_after.Goals as goal
-use Rattle.rows.proofs.output.output_after.Goals.{in-Some+else-left-eq0, in-default}
+use Rattle.rows.proofs.output.output_after.Goals.{in-Some+else-left-eq0, in_default}
 
 pub returns-then-left-eq0 : goal.returns-then-left-eq0
 returns-then-left-eq0 c =
@@ -20,8 +20,8 @@ loop-x-preserved c =
     let on = search_on (λ (x : Interval). option_to_list x.output) xs i left blank in
     elim c.match-x.branch [
       | in-Some+else-left-eq0 w ↦ ap (slice_get (outputs (drop _ xs))) w.left-is ∙ sym (on 1 c.loop-x-test.true (ap (λ o. length (option_to_list o)) w.in-Some.is) (omega (arith, w.if-left-eq0.false))) ∙ c.loop-x.invariant
-      | in-default w ↦ let same : c.match-x.left ≡ left - 0 = omega (arith, w.left-is) in
-          ap (slice_get (outputs (drop _ xs))) same ∙ sym (on 0 c.loop-x-test.true (ap (λ o. length (option_to_list o)) w.in-default.is) (omega arith)) ∙ c.loop-x.invariant
+      | in_default w ↦ let same : c.match-x.left ≡ left - 0 = omega (arith, w.left-is) in
+          ap (slice_get (outputs (drop _ xs))) same ∙ sym (on 0 c.loop-x-test.true (ap (λ o. length (option_to_list o)) w.in_default.is) (omega arith)) ∙ c.loop-x.invariant
     ]
 
 pub returns : goal.returns
