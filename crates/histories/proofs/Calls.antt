@@ -1,25 +1,25 @@
 -- Every call keeps what holds.
-use Rattle.std.proofs.Common.{◌≡◌, ℕ, zero, suc, ◌+◌, ◌-◌, ◌<◌, ◌≤◌, Bool, true, false, cond, not, ◌||◌, eqb, ltb, leb, ◌⊎◌, List, [], ◌∷◌, ◌++◌, map, length, take, drop, sym, refl, ap, ◌∙◌, subst, inl, inr, arith}
+use Rattle.std.proofs.Common.{◌≡◌, ℕ, ◌+◌, ◌<◌, ◌≤◌, true, false, ltb, List, [], ◌∷◌, ◌++◌, length, take, drop, sym, refl, ap, ◌∙◌, subst, arith}
 use Rattle.std.specs.List.{AllByRecursion as All}
 use Rattle.std.proofs.ByRecursion.{All-drop}
-use Rattle.std.proofs.lemmas.List.{append_assoc, drop-append-le, length-append}
-use Rattle.std.proofs.lemmas.Bool.{not-false, ltb-false, leb-false, leb-true, cond_both}
+use Rattle.std.proofs.lemmas.List.{drop-append-le}
+use Rattle.std.proofs.lemmas.Bool.{not-false, ltb-false, leb-false, cond_both}
 use Rattle.programs.specs.Program.{Meaning}
 use Rattle.records.specs.declared.Interval.{Interval}
 use Rattle.stores.specs.Calls.{unsafe_count, room}
 use Rattle.stores.specs.Meaning as store
-use Rattle.lines.specs.Built.{Given, Gives, Grows, Built, begins, input, delivery}
+use Rattle.lines.specs.Built.{Given, Gives, Grows, Built, input, delivery}
 use Rattle.lines.specs.Intervals.{Family, Message, play, channel, taken, waiting, next_input, vector_after, merged, begun, by_input, by_delivery}
-use Rattle.lines.specs.Lines.{Line, greatest_line}
+use Rattle.lines.specs.Lines.{Line}
 use Rattle.lines.proofs.Indexes.{From, from_take, sent_early, channel_append}
 use Rattle.lines.proofs.Taken.{some_left}
 use Rattle.histories.specs.Calls as calls
 use Rattle.histories.specs.Calls.{Call, Refusal, Answer, accepted, refused}
-use Rattle.histories.specs.Effects.{After, began, taking}
+use Rattle.histories.specs.Effects.{After, taking}
 use Rattle.histories.specs.Rules.{tested, effect, rule}
-use Rattle.histories.specs.Tests.{Test, tests, unsaved, left, line_records}
+use Rattle.histories.specs.Tests.{Test, tests, unsaved, left}
 use Rattle.histories.specs.World.{World, at}
-use Rattle.histories.proofs.Fronts.{Front, front_take, front_is}
+use Rattle.histories.proofs.Fronts.{front_take, front_is}
 use Rattle.histories.proofs.Holds.{Holds, Next}
 use Rattle.histories.proofs.Images.{at_same, at_other}
 use Rattle.histories.proofs.Remembered.{kept_whole}

@@ -1,5 +1,5 @@
 -- What each call of a host promises, beside its answer.
-use Rattle.std.specs.Prelude.{◌≡◌, ℕ, ◌≤◌, true, List, [], ◌∷◌, ◌++◌}
+use Rattle.std.specs.Prelude.{◌≡◌, ℕ, true, List, [], ◌∷◌, ◌++◌}
 use Rattle.std.specs.List.{AllByRecursion as All}
 use Rattle.programs.specs.Program.{Meaning}
 use Rattle.lines.specs.Intervals.{play}
