@@ -1,25 +1,26 @@
 -- Every call keeps what holds.
-use Rattle.std.proofs.Common.{◌≡◌, ℕ, zero, suc, ◌+◌, ◌-◌, ◌<◌, ◌≤◌, Bool, true, false, cond, not, ◌||◌, eqb, ltb, leb, ◌⊎◌, List, [], ◌∷◌, ◌++◌, map, length, take, drop, sym, refl, ap, ◌∙◌, subst, inl, inr, arith}
+use Rattle.std.proofs.Common.{◌≡◌, ℕ, ◌+◌, ◌<◌, ◌≤◌, true, false, ltb, List, [], ◌∷◌, ◌++◌, length, take, drop, sym, refl, ap, ◌∙◌, subst, arith}
 use Rattle.std.specs.List.{AllByRecursion as All}
 use Rattle.std.proofs.ByRecursion.{All-drop}
-use Rattle.std.proofs.lemmas.List.{append_assoc, drop-append-le, length-append}
-use Rattle.std.proofs.lemmas.Bool.{not-false, ltb-false, leb-false, leb-true, cond_both}
+use Rattle.std.proofs.lemmas.List.{drop-append-le}
+use Rattle.std.proofs.lemmas.Grind.{flat_map-append}
+use Rattle.std.proofs.lemmas.Bool.{not-false, ltb-false, leb-false, cond_both}
 use Rattle.programs.specs.Program.{Meaning}
 use Rattle.records.specs.declared.Interval.{Interval}
 use Rattle.stores.specs.Calls.{unsafe_count, room}
 use Rattle.stores.specs.Meaning as store
-use Rattle.lines.specs.Built.{Given, Gives, Grows, Built, begins, input, delivery}
-use Rattle.lines.specs.Intervals.{Family, Message, play, channel, taken, waiting, next_input, vector_after, merged, begun, by_input, by_delivery}
-use Rattle.lines.specs.Lines.{Line, greatest_line}
-use Rattle.lines.proofs.Indexes.{From, from_take, sent_early, channel_append}
+use Rattle.lines.specs.Built.{Given, Gives, Grows, Built, input, delivery}
+use Rattle.lines.specs.Intervals.{Family, Message, play, sent_in, channel, taken, waiting, next_input, vector_after, merged, begun, by_input, by_delivery}
+use Rattle.lines.specs.Lines.{Line}
+use Rattle.lines.proofs.Indexes.{From, from_take, sent_early}
 use Rattle.lines.proofs.Taken.{some_left}
 use Rattle.histories.specs.Calls as calls
 use Rattle.histories.specs.Calls.{Call, Refusal, Answer, accepted, refused}
-use Rattle.histories.specs.Effects.{After, began, taking}
+use Rattle.histories.specs.Effects.{After, taking}
 use Rattle.histories.specs.Rules.{tested, effect, rule}
-use Rattle.histories.specs.Tests.{Test, tests, unsaved, left, line_records}
+use Rattle.histories.specs.Tests.{Test, tests, unsaved, left}
 use Rattle.histories.specs.World.{World, at}
-use Rattle.histories.proofs.Fronts.{Front, front_take, front_is}
+use Rattle.histories.proofs.Fronts.{front_take, front_is}
 use Rattle.histories.proofs.Holds.{Holds, Next}
 use Rattle.histories.proofs.Images.{at_same, at_other}
 use Rattle.histories.proofs.Remembered.{kept_whole}
@@ -68,7 +69,7 @@ module _ (S R : Type 0) (M : Meaning) (N : ℕ) (few : N ≤ 8) (K : Line) {give
   waits q p m ms up e =
       let whole = h.rows.whole p up in
       let more = channel p (h.rows.fronts q).0 in
-      let split : channel p (F q) ≡ channel p (w.intervals q) ++ more = ap (channel p) (h.rows.fronts q).1 ∙ channel_append p (w.intervals q) (h.rows.fronts q).0 in
+      let split : channel p (F q) ≡ channel p (w.intervals q) ++ more = ap (channel p) (h.rows.fronts q).1 ∙ flat_map-append (sent_in p) (w.intervals q) (h.rows.fronts q).0 in
       let first : drop (taken q (F p)) (channel p (w.intervals q)) ≡ m ∷ ms = ap (λ xs. drop (taken q xs) (channel p (w.intervals q))) (sym whole) ∙ e in
       (ms ++ more, ap (drop (taken q (F p))) split ∙ drop-append-le (taken q (F p)) (channel p (w.intervals q)) more (let l = some_left (taken q (F p)) (channel p (w.intervals q)) m ms first in omega arith) ∙ ap (λ xs. xs ++ more) first)
 

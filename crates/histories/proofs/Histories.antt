@@ -1,26 +1,24 @@
 -- What holds at the end of every history, and what lasts from one moment to a later one.
-use Rattle.std.proofs.Common.{◌≡◌, ℕ, zero, suc, ◌+◌, ◌-◌, ◌<◌, ◌≤◌, Bool, true, false, cond, ◌&&◌, ◌||◌, eqb, ltb, ◌⊎◌, List, [], ◌∷◌, ◌++◌, map, length, take, sym, refl, ap, ◌∙◌, subst, inl, inr, arith}
+use Rattle.std.proofs.Common.{◌≡◌, ℕ, ◌<◌, ◌≤◌, true, false, eqb, ltb, ◌⊎◌, List, [], ◌∷◌, ◌++◌, length, take, sym, refl, ap, ◌∙◌, subst, inl, inr, arith}
 use Rattle.std.specs.List.{AllByRecursion as All}
 use Rattle.std.proofs.lemmas.List.{take_all, length-take, append_assoc}
-use Rattle.std.proofs.lemmas.Bool.{eq-eqb, and_from, or_left, or_right, or_cases, ltb-true, ltb-false, cond-true}
+use Rattle.std.proofs.lemmas.Bool.{eq-eqb, and_from, or_left, or_right, or_cases, ltb-true, cond-true}
 use Rattle.programs.specs.Program.{Meaning, zeros}
-use Rattle.stores.specs.Meaning as store
 use Rattle.lines.specs.Built.{Given, Gives, Built, begins, input, delivery}
 use Rattle.lines.specs.Intervals.{Family}
-use Rattle.lines.specs.Lines.{Line, Backed, Consistent, Within, Greatest, greatest_line}
+use Rattle.lines.specs.Lines.{Line, Backed, Consistent, Within, Greatest}
 use Rattle.lines.proofs.Greatest.{greatest_is_greatest}
 use Rattle.histories.specs.Calls as calls
 use Rattle.histories.specs.Calls.{Call, Answer, accepted, refused}
 use Rattle.histories.specs.History.{Does, History, starts, goes_on, First}
 use Rattle.histories.specs.Ledger.{Event}
 use Rattle.histories.specs.Reading.{reading}
-use Rattle.histories.specs.Rules.{rule}
 use Rattle.histories.specs.Tests.{committed}
 use Rattle.histories.specs.Theorem.{fed, gave}
-use Rattle.histories.specs.World.{World, fresh}
+use Rattle.histories.specs.World.{World}
 use Rattle.histories.proofs.Calls.{Fed, step}
 use Rattle.histories.proofs.Fronts.{front_none, front_take}
-use Rattle.histories.proofs.Holds.{FamilyHolds, Holds, Lasts, Next}
+use Rattle.histories.proofs.Holds.{Holds, Next}
 use Rattle.histories.proofs.Remembered.{Kept, kept_whole}
 use Rattle.histories.proofs.Steps.{not_both}
 

@@ -1,24 +1,20 @@
 -- What holds of a host at every moment of a history, with F all that could still be remembered and K a line that lasts.
-use Rattle.std.proofs.Common.{◌≡◌, ℕ, zero, suc, ◌+◌, ◌-◌, ◌<◌, ◌≤◌, Bool, true, false, cond, eqb, ◌⊎◌, List, [], ◌∷◌, ◌++◌, map, length, take, drop, sym, refl, ap, ◌∙◌, subst, inl, inr, arith}
+use Rattle.std.proofs.Common.{◌≡◌, ℕ, ◌+◌, ◌<◌, ◌≤◌, true, false, ◌⊎◌, List, [], ◌∷◌, length, take, sym, ap, ◌∙◌, subst, inl, inr, arith}
 use Rattle.std.specs.List.{AllByRecursion as All}
-use Rattle.std.proofs.ByRecursion.{All-push, All-take, All-drop}
-use Rattle.std.proofs.lemmas.List.{append-nil, append_assoc, take-append-le, take-take, take_all, length_push, length-take, take-append-drop, length-append}
-use Rattle.std.proofs.lemmas.List.Sums.{fold_push}
-use Rattle.std.proofs.lemmas.Bool.{cases_eq, true≢false}
+use Rattle.std.proofs.ByRecursion.{All-push}
+use Rattle.std.proofs.lemmas.List.{take-append-le, length_push}
+use Rattle.std.proofs.lemmas.Bool.{cases_eq}
 use Rattle.programs.specs.Program.{Meaning}
 use Rattle.records.specs.declared.Interval.{Interval}
-use Rattle.records.specs.declared.Record.{Record}
 use Rattle.stores.specs.Meaning as store
-use Rattle.lines.specs.Built.{Given, Gives, Grows, Built}
+use Rattle.lines.specs.Built.{Given, Grows, Built}
 use Rattle.lines.specs.Intervals.{Family, play}
 use Rattle.lines.specs.Lines.{Line, Backed, Consistent}
 use Rattle.lines.proofs.Indexes.{From, from_push, grows_each}
-use Rattle.histories.specs.Effects.{began}
 use Rattle.histories.specs.Reading.{reading}
-use Rattle.histories.specs.World.{World, at}
-use Rattle.histories.proofs.Fronts.{Front, front_more, front_length, front_via, front_taken, front_take}
-use Rattle.histories.proofs.Images.{at_same, at_other}
-use Rattle.histories.proofs.Remembered.{Kept, Remembered}
+use Rattle.histories.specs.World.{World}
+use Rattle.histories.proofs.Fronts.{Front, front_more, front_length}
+use Rattle.histories.proofs.Remembered.{Remembered}
 
 -- What speaks of states hangs on S, the states are those played, and what speaks of runs on R too, a run made the records.
 

@@ -1,7 +1,8 @@
 -- What each kind of record does to what is read.
-use Rattle.std.proofs.Common.{◌≡◌, ℕ, zero, suc, ◌+◌, ◌<◌, ◌≤◌, true, false, cond, eqb, ◌⊎◌, List, [], ◌∷◌, ◌++◌, map, length, get_or, take, drop, fold, sym, refl, ap, ◌∙◌, subst, inl, inr, arith}
+use Rattle.std.proofs.Common.{◌≡◌, ℕ, eqb, List, [], ◌∷◌, ◌++◌, map, fold, sym, refl, ap, ◌∙◌, subst}
 use Rattle.std.specs.List.{AllByRecursion as All}
 use Rattle.std.proofs.lemmas.List.{append-nil, append_assoc}
+use Rattle.std.proofs.lemmas.List.Sums.{fold-append}
 use Rattle.std.proofs.lemmas.Bool.{eq-eqb, ne_eqb, cond-true, cond-false}
 use Rattle.records.specs.declared.Interval.{Interval}
 use Rattle.records.specs.declared.Record.{Record}
@@ -20,11 +21,7 @@ abbrev pub reading_on : Image → List Record → Image
 reading_on i rs = fold (λ j r. noted j r.content) i rs
 
 pub reading_append : (rs ss : List Record) → reading (rs ++ ss) ≡ reading_on (reading rs) ss
-reading_append rs ss = go (record { rows = λ p. []; checkpoints = λ p. [] }) rs
-  where
-    go : (i : Image) (xs : List Record) → reading_on i (xs ++ ss) ≡ reading_on (reading_on i xs) ss
-    go i [] = refl
-    go i (x ∷ xs) = go (noted i x.content) xs
+reading_append rs ss = fold-append (λ i r. noted i r.content) (record { rows = λ p. []; checkpoints = λ p. [] }) rs ss
 
 -- intervals of process p are added to its row, and to no other
 pub rows_more : (i : Image) (p : ℕ) (xs : List Interval) → All (λ x. x.process ≡ p) xs → (reading_on i (map interval_record xs)).rows p ≡ i.rows p ++ xs

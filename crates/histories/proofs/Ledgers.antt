@@ -1,23 +1,23 @@
 -- The ledger is what the host holds.
-use Rattle.std.proofs.Common.{◌≡◌, ℕ, zero, suc, ◌+◌, ◌-◌, ◌<◌, ◌≤◌, min, Bool, true, false, cond, eqb, ltb, ◌⊎◌, List, [], ◌∷◌, ◌++◌, map, length, take, drop, Ok, Err, sym, refl, ap, ◌∙◌, subst, inl, inr, arith}
+use Rattle.std.proofs.Common.{◌≡◌, ℕ, ◌+◌, ◌-◌, ◌<◌, ◌≤◌, Bool, true, false, cond, ltb, ◌⊎◌, List, [], ◌∷◌, ◌++◌, map, length, take, Ok, Err, sym, refl, ap, ◌∙◌, subst, inl, inr, arith}
 use Rattle.std.specs.List.{AllByRecursion as All}
 use Rattle.std.proofs.lemmas.List.{append-nil, take_all, length-append, length-take, length-drop, length-map, length_push}
-use Rattle.std.proofs.lemmas.Bool.{cases_eq, not-false, leb-false, ltb-false, cond-true}
+use Rattle.std.proofs.lemmas.Bool.{cases_eq, not-false, ltb-false, cond-true}
 use Rattle.programs.specs.Program.{Meaning}
 use Rattle.records.specs.declared.Interval.{Interval}
 use Rattle.records.specs.declared.Record.{Record}
-use Rattle.stores.specs.Calls.{Outcome, revived, unsafe_count, room, all_safe, with_power, with_records}
+use Rattle.stores.specs.Calls.{Outcome, revived, room, all_safe, with_power, with_records}
 use Rattle.stores.specs.Meaning as store
 use Rattle.lines.specs.Built.{Given}
 use Rattle.lines.specs.Intervals.{Family, Message, play, waiting, by_input, by_delivery}
 use Rattle.lines.specs.Lines.{Line, greatest_line}
 use Rattle.histories.specs.Calls as calls
 use Rattle.histories.specs.Calls.{Call, Refusal, Answer, accepted, refused, by_store}
-use Rattle.histories.specs.Effects.{After, began, taking, saving, marking, crashed, finished, written, interval_record, checkpoint_record, line_record, all_saved, settled, settling, woken}
-use Rattle.histories.specs.Ledger.{Event, Ledger, after_answer, after_event, grounds, found, writes, turns, taken_first, cut_back, line_writes, line_in, left_in, synced_with, lost}
+use Rattle.histories.specs.Effects.{After, began, taking, saving, marking, finished, written, interval_record, checkpoint_record, line_record, all_saved, settled, settling, woken}
+use Rattle.histories.specs.Ledger.{Ledger, after_answer, grounds, found, writes, turns, taken_first, cut_back, line_writes, line_in, left_in, synced_with, lost}
 use Rattle.histories.specs.Reading.{reading}
 use Rattle.histories.specs.Rules.{tested, effect, rule, restarting}
-use Rattle.histories.specs.Tests.{Test, tests, unsaved, left, some_above, line_records, no_room}
+use Rattle.histories.specs.Tests.{Test, tests, unsaved, some_above, line_records, no_room}
 use Rattle.histories.specs.Theorem.{entered}
 use Rattle.histories.specs.World.{World, at, darkened}
 use Rattle.histories.proofs.Holds.{Holds}
@@ -77,9 +77,6 @@ module _ (M : Meaning) (N kept : ℕ) (w : World) (c : Call) where
           ap (λ l. lost (store.count m - length l.records) (writes M N c l) l) g ∙ ap (λ rs. lost (store.count m - length b.store.records) rs (entered b)) is ∙ lost_is M N b ws m j h e s
 
 module _ (M : Meaning) (N kept : ℕ) (w : World) where
-  agree_began : (c : Call) (x y : Interval) (p : ℕ) → ((ns : List ℕ) → after_answer M N kept c (accepted ns) (entered w) ≡ entered (began M p y w).1) → y ≡ x → Agree M N kept w c (began M p x w)
-  agree_began c x y p is e = is (x.index ∷ []) ∙ ap (λ z. entered (began M p z w).1) e
-
   agree_taking : (q p : ℕ) → w.state p ≡ play M p (w.intervals p) → (ms : List Message) → waiting w.intervals q p ≡ ms → Agree M N kept w (calls.deliver q p) (taking M N q p w ms)
   agree_taking q p state [] e = ap (λ l. taken_first M N q p l (entered w)) e
   agree_taking q p state (m ∷ ms) e = ap (λ l. taken_first M N q p l (entered w)) e ∙ ap (λ s. entered (began M p (by_delivery M N s w.intervals q p m) w).1) (sym state)

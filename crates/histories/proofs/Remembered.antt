@@ -1,8 +1,8 @@
 -- What every reading of the store's records keeps, however many of them stand.
-use Rattle.std.proofs.Common.{◌≡◌, ℕ, zero, suc, ◌+◌, ◌-◌, ◌<◌, ◌≤◌, Bool, true, false, cond, eqb, leb, ◌⊎◌, List, [], ◌∷◌, ◌++◌, map, length, get_or, take, drop, filter, sym, refl, ap, ◌∙◌, subst, inl, inr, arith}
+use Rattle.std.proofs.Common.{◌≡◌, ℕ, ◌-◌, ◌<◌, ◌≤◌, Bool, true, false, cond, leb, ◌⊎◌, List, [], ◌∷◌, ◌++◌, map, length, get_or, take, filter, sym, refl, ap, ◌∙◌, subst, inl, inr, arith}
 use Rattle.std.specs.List.{AllByRecursion as All}
-use Rattle.std.proofs.ByRecursion.{All-weaker, All-push, all_kept_by, kept_by_passes}
-use Rattle.std.proofs.lemmas.List.{append-nil, append_assoc, take-append-le, take-take, take_all, length-append, length-take}
+use Rattle.std.proofs.ByRecursion.{All-weaker, All-push}
+use Rattle.std.proofs.lemmas.List.{take-append-le, take-take, take_all, length-append, length-take}
 use Rattle.std.proofs.lemmas.Bool.{cases_eq, leb-true}
 use Rattle.programs.specs.Program.{Meaning}
 use Rattle.records.specs.declared.Checkpoint.{Checkpoint}
@@ -15,7 +15,7 @@ use Rattle.histories.specs.Effects.{interval_record}
 use Rattle.histories.specs.Reading.{Image, noted, reading, PlayedFront}
 use Rattle.histories.specs.World.{at}
 use Rattle.histories.proofs.Fronts.{Front, front_taken, front_via, take_past, take_within}
-use Rattle.histories.proofs.Images.{at_same, at_other, reading_on, reading_append, rows_more, rows_others, checkpoints_same}
+use Rattle.histories.proofs.Images.{at_same, at_other, reading_on, rows_more, rows_others, checkpoints_same}
 
 good_longer : (M : Meaning) (p : ℕ) (xs zs : List Interval) (c : Checkpoint) → PlayedFront M p xs c → PlayedFront M p (xs ++ zs) c
 good_longer M p xs zs c g = (omega (arith, g.0, length-append xs zs), g.1 ∙ ap (play M p) (sym (take-append-le c.index xs zs g.0)))

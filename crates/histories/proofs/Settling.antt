@@ -1,32 +1,31 @@
 -- Going back to the greatest line keeps what holds.
-use Rattle.std.proofs.Common.{◌≡◌, ℕ, zero, suc, ◌+◌, ◌-◌, ◌<◌, ◌≤◌, min, Bool, true, false, cond, ◌&&◌, ◌||◌, eqb, ltb, leb, ◌⊎◌, List, [], ◌∷◌, ◌++◌, map, length, get_or, take, drop, fold, sym, refl, ap, ◌∙◌, subst, inl, inr, arith}
+use Rattle.std.proofs.Common.{◌≡◌, ℕ, zero, suc, ◌+◌, ◌<◌, ◌≤◌, min, Bool, true, false, cond, ltb, leb, ◌⊎◌, List, [], ◌∷◌, ◌++◌, map, length, get_or, take, drop, fold, sym, refl, ap, ◌∙◌, subst, inl, inr, arith}
 use Rattle.std.specs.List.{range_with_len, AllByRecursion as All}
 use Rattle.std.proofs.lemmas.List.FromFn.{get_or-map-range_with_len}
 use Rattle.std.proofs.ByRecursion.{All-take}
 use Rattle.std.proofs.lemmas.List.{append-nil, take-take, take_all, take-append-drop, length-take}
-use Rattle.std.proofs.lemmas.Bool.{cases_lt, ltb-true, ltb-false, leb-true, lt-ltb, cond-true, cond-false, and_parts, or_parts}
+use Rattle.std.proofs.lemmas.Bool.{cases_lt, ltb-true, ltb-false, leb-true, lt-ltb, cond-true, and_parts, or_parts}
 use Rattle.programs.specs.Program.{Meaning}
 use Rattle.programs.specs.declared.values.State.{State}
 use Rattle.records.specs.declared.Checkpoint.{Checkpoint}
 use Rattle.records.specs.declared.Content.TheVariants as content
 use Rattle.records.specs.declared.Interval.{Interval}
-use Rattle.records.specs.declared.Record.{Record}
 use Rattle.stores.specs.Calls.{room}
 use Rattle.stores.specs.Meaning as store
-use Rattle.lines.specs.Built.{Given, Built, cut}
+use Rattle.lines.specs.Built.{Given, cut}
 use Rattle.lines.specs.Intervals.{Family, play}
-use Rattle.lines.specs.Lines.{Line, Backed, Consistent, Within, Greatest, greatest_line}
+use Rattle.lines.specs.Lines.{Line, Backed, Consistent, Greatest, greatest_line}
 use Rattle.lines.proofs.Cut.{built_cut}
 use Rattle.lines.proofs.Greatest.{greatest_is_greatest}
 use Rattle.lines.proofs.Indexes.{from_take}
-use Rattle.histories.specs.Effects.{After, line_record, finished, written, untouched, restored, settled, settling}
+use Rattle.histories.specs.Effects.{line_record, finished, written, untouched, restored, settled, settling}
 use Rattle.histories.specs.Reading.{Image, noted, reading, origin, PlayedFront}
 use Rattle.histories.specs.Tests.{some_above, line_records}
 use Rattle.histories.specs.World.{World}
-use Rattle.histories.proofs.Fronts.{Front, front_self, front_none, front_length, front_take, front_cut}
-use Rattle.histories.proofs.Holds.{FamilyHolds, RowsHold, StoreHolds, Holds, Lasts, Next}
-use Rattle.histories.proofs.Images.{reading_on, reading_append}
-use Rattle.histories.proofs.Remembered.{Kept, Remembered, kept_whole, kept_line}
+use Rattle.histories.proofs.Fronts.{Front, front_self, front_none, front_take, front_cut}
+use Rattle.histories.proofs.Holds.{FamilyHolds, Lasts, Next}
+use Rattle.histories.proofs.Images.{reading_append}
+use Rattle.histories.proofs.Remembered.{Kept, kept_line}
 use Rattle.histories.proofs.Steps.{not_both, next_written}
 
 folded_append : {A B : Type 0} (f : B → A → B) (a : B) (xs ys : List A) → fold f a (xs ++ ys) ≡ fold f (fold f a xs) ys

@@ -1,8 +1,8 @@
 -- Calls that do not recover keep what holds.
-use Rattle.std.proofs.Common.{◌≡◌, ℕ, zero, suc, ◌+◌, ◌-◌, ◌<◌, ◌≤◌, Bool, true, false, cond, eqb, ◌⊎◌, List, [], ◌∷◌, ◌++◌, map, length, take, drop, Ok, Err, sym, refl, ap, ◌∙◌, subst, inl, inr, arith}
+use Rattle.std.proofs.Common.{◌≡◌, ℕ, ◌+◌, ◌<◌, ◌≤◌, Bool, true, false, ◌⊎◌, List, [], ◌∷◌, ◌++◌, map, length, take, drop, sym, refl, ap, ◌∙◌, subst, inl, inr, arith}
 use Rattle.std.specs.List.{AllByRecursion as All}
-use Rattle.std.proofs.ByRecursion.{All-push, All-take, All-drop}
-use Rattle.std.proofs.lemmas.List.{append-nil, append_assoc, take-append-le, take-take, take_all, take-map, length_push, length-take, length-map, take-append-drop, length-append, length-drop}
+use Rattle.std.proofs.ByRecursion.{All-take, All-drop}
+use Rattle.std.proofs.lemmas.List.{append_assoc, take-append-le, take-take, take_all, take-map, length_push, length-take, length-map, take-append-drop, length-append}
 use Rattle.std.proofs.lemmas.List.Sums.{fold_push}
 use Rattle.std.proofs.lemmas.Bool.{cases_eq, cases_lt, true≢false}
 use Rattle.programs.specs.Program.{Meaning}
@@ -10,16 +10,16 @@ use Rattle.records.specs.declared.Interval.{Interval}
 use Rattle.records.specs.declared.Record.{Record}
 use Rattle.stores.specs.Calls.{Outcome}
 use Rattle.stores.specs.Meaning as store
-use Rattle.lines.specs.Built.{Given, Gives, Grows, Built}
+use Rattle.lines.specs.Built.{Given, Grows, Built}
 use Rattle.lines.specs.Intervals.{Family, play}
 use Rattle.lines.specs.Lines.{Line}
-use Rattle.histories.specs.Calls.{Answer, accepted, refused}
+use Rattle.histories.specs.Calls.{accepted}
 use Rattle.histories.specs.Effects.{After, began, crashed, finished, written, interval_record, checkpoint_record, all_saved, saving, marking}
-use Rattle.histories.specs.Reading.{Image, noted, reading, PlayedFront}
+use Rattle.histories.specs.Reading.{noted, reading, PlayedFront}
 use Rattle.histories.specs.Tests.{unsaved}
 use Rattle.histories.specs.World.{World, at, darkened}
-use Rattle.histories.proofs.Fronts.{Front, front_self, front_none, front_more, front_length, front_via, front_taken, front_take}
-use Rattle.histories.proofs.Holds.{FamilyHolds, RowsHold, StoreHolds, Holds, Lasts, Next, low, grown_lasts, grown_store, grown_family}
+use Rattle.histories.proofs.Fronts.{Front, front_self, front_none, front_via, front_taken}
+use Rattle.histories.proofs.Holds.{FamilyHolds, StoreHolds, Holds, Next, low, grown_lasts, grown_store, grown_family}
 use Rattle.histories.proofs.Images.{at_same, at_other, reading_on, reading_append, rows_more, rows_others}
 use Rattle.histories.proofs.Remembered.{Kept, Remembered, kept_whole, kept_intervals, kept_checkpoint, remembered_write}
 use Rattle.histories.proofs.Writing.{Wrote, done, died, wrote}

@@ -1,13 +1,12 @@
 -- The theorem on every history.
-use Rattle.std.proofs.Common.{◌≡◌, ℕ, zero, suc, ◌+◌, ◌-◌, ◌<◌, ◌≤◌, Bool, true, false, cond, ◌&&◌, ◌||◌, eqb, ltb, ◌⊎◌, List, [], ◌∷◌, ◌++◌, map, length, get_or, take, drop, fold, sym, refl, ap, ◌∙◌, subst, inl, inr, arith}
+use Rattle.std.proofs.Common.{◌≡◌, ℕ, zero, suc, ◌+◌, ◌-◌, ◌<◌, ◌≤◌, Bool, true, false, eqb, ltb, ◌⊎◌, List, [], ◌∷◌, ◌++◌, map, length, get_or, take, drop, fold, sym, refl, ap, ◌∙◌, subst, inl, inr, arith}
 use Rattle.std.specs.List.{range_with_len}
-use Rattle.std.proofs.lemmas.List.{take-append-drop, get_or_append_left, length-append, take_all}
+use Rattle.std.proofs.lemmas.List.{take-append-drop, get_or_append_left}
 use Rattle.std.proofs.lemmas.List.Sums.{fold_push}
 use Rattle.std.proofs.lemmas.Bool.{cases_lt, and_parts, or_parts, eqb-false, ltb-false}
 use Rattle.programs.specs.Program.{Meaning}
 use Rattle.runs.specs.Run.{Move}
 use Rattle.records.specs.declared.Interval.{Interval}
-use Rattle.stores.specs.Meaning as store
 use Rattle.lines.specs.Built.{Given}
 use Rattle.lines.specs.Intervals.{Family, outputs}
 use Rattle.lines.specs.Lines.{Line, greatest_line}
@@ -24,7 +23,7 @@ use Rattle.histories.specs.Ledger.{Event, Ledger, blank, after_event, after_answ
 use Rattle.histories.specs.Rules.{effect, rule}
 use Rattle.histories.specs.Tests.{tests, committed, shown, left, all_up}
 use Rattle.histories.specs.Theorem.{gave, entered, AnswersGreatest, Lasting, EveryHistory}
-use Rattle.histories.specs.World.{World, fresh}
+use Rattle.histories.specs.World.{World}
 use Rattle.histories.proofs.Calls.{tested_each}
 use Rattle.histories.proofs.Fronts.{front_is}
 use Rattle.histories.proofs.Histories.{first_holds, follow_all, lasts_on}

@@ -1,6 +1,6 @@
 -- A restart finds what is remembered, and settles on it or stays dark.
-use Rattle.std.proofs.Common.{◌≡◌, ℕ, ◌+◌, ◌-◌, ◌<◌, ◌≤◌, Bool, true, false, cond, ltb, ◌⊎◌, List, [], ◌∷◌, ◌++◌, length, take, Ok, Err, sym, refl, ap, ◌∙◌, subst, inl, inr, arith}
-use Rattle.std.proofs.lemmas.List.{take_all, length-take}
+use Rattle.std.proofs.Common.{◌≡◌, ℕ, ◌+◌, ◌<◌, ◌≤◌, Bool, true, false, cond, ltb, ◌⊎◌, List, [], ◌∷◌, ◌++◌, length, take, Ok, Err, sym, refl, ◌∙◌, subst, inl, inr, arith}
+use Rattle.std.proofs.lemmas.List.{take_all}
 use Rattle.std.proofs.lemmas.Bool.{cases_lt, lt-ltb, le-ltb, cond-true, cond-false}
 use Rattle.programs.specs.Program.{Meaning}
 use Rattle.records.specs.declared.Interval.{Interval}
@@ -9,7 +9,7 @@ use Rattle.stores.specs.Meaning as store
 use Rattle.lines.specs.Built.{Given}
 use Rattle.lines.specs.Intervals.{Family}
 use Rattle.lines.specs.Lines.{Line, greatest_line}
-use Rattle.histories.specs.Effects.{After, settling, woken}
+use Rattle.histories.specs.Effects.{settling, woken}
 use Rattle.histories.specs.Reading.{reading}
 use Rattle.histories.specs.Calls.{by_store}
 use Rattle.histories.specs.Rules.{restarting, tested}

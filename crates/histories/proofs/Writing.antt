@@ -1,9 +1,9 @@
 -- What a write leaves of a living store with room: all of it, safe, or a first part of it and a dead store.
-use Rattle.std.proofs.Common.{◌≡◌, ℕ, zero, suc, ◌+◌, ◌-◌, ◌<◌, ◌≤◌, Bool, true, false, cond, eqb, leb, List, [], ◌∷◌, ◌++◌, length, take, Some, None, Ok, Err, Option, sym, refl, ap, ◌∙◌, subst, arith}
-use Rattle.std.proofs.lemmas.List.{append-nil, append_assoc, length-append, length_push}
-use Rattle.std.proofs.lemmas.Bool.{lt-leb, cond-true, cond-false}
+use Rattle.std.proofs.Common.{◌≡◌, ℕ, suc, ◌+◌, ◌-◌, ◌<◌, ◌≤◌, Bool, true, false, cond, eqb, leb, List, [], ◌∷◌, ◌++◌, length, take, Some, None, Ok, Err, Option, sym, refl, ap, ◌∙◌, subst, arith}
+use Rattle.std.proofs.lemmas.List.{append-nil, append_assoc, length_push}
+use Rattle.std.proofs.lemmas.Bool.{lt-leb}
 use Rattle.records.specs.declared.Record.{Record}
-use Rattle.stores.specs.Calls.{Outcome, appended, synced, powered, changed, spent, all_safe, with_records, with_power}
+use Rattle.stores.specs.Calls.{Outcome, appended, synced, powered, changed, spent, all_safe, with_records}
 use Rattle.stores.specs.Meaning.{Meaning, count}
 use Rattle.histories.specs.Effects.{then, written}
 

@@ -1,20 +1,19 @@
 -- What an accepted call answers and changes.
-use Rattle.std.specs.Prelude.{ℕ, ◌+◌, ◌-◌, min, Bool, true, false, cond, ◌&&◌, List, [], ◌∷◌, ◌++◌, map, length, take, drop, Ok, Err, fold, nat_le, nat_lt}
+use Rattle.std.specs.Prelude.{ℕ, ◌-◌, min, Bool, true, false, cond, ◌&&◌, List, [], ◌∷◌, ◌++◌, map, length, take, drop, Ok, Err, fold, nat_le, nat_lt}
 use Rattle.std.specs.List.{range_with_len}
 use Rattle.programs.specs.Program.{Meaning}
 use Rattle.programs.specs.declared.values.State.{State}
-use Rattle.records.specs.declared.Checkpoint.{Checkpoint}
 use Rattle.records.specs.declared.Content.TheVariants as content
 use Rattle.records.specs.declared.Interval.{Interval}
 use Rattle.records.specs.declared.Record.{Record}
-use Rattle.stores.specs.Calls.{Outcome, appended, synced, armed, revived}
+use Rattle.stores.specs.Calls.{Outcome, appended, synced, revived}
 use Rattle.stores.specs.Meaning as store
 use Rattle.lines.specs.Built.{cut}
-use Rattle.lines.specs.Intervals.{Family, Message, waiting, by_input, by_delivery}
+use Rattle.lines.specs.Intervals.{Family, Message, by_delivery}
 use Rattle.lines.specs.Lines.{Line, greatest_line}
 use Rattle.histories.specs.Calls.{Answer, accepted, refused, by_store}
 use Rattle.histories.specs.Reading.{Image, reading, origin}
-use Rattle.histories.specs.Tests.{unsaved, some_above, shown}
+use Rattle.histories.specs.Tests.{unsaved, some_above}
 use Rattle.histories.specs.World.{World, at, darkened}
 
 -- a call's answer, and the world after it

@@ -1,5 +1,5 @@
 -- The ledger: what is remembered of a host by its calls, their answers and the stores' choices alone.
-use Rattle.std.specs.Prelude.{ℕ, ◌+◌, ◌-◌, min, Bool, true, false, cond, ltb, List, [], ◌∷◌, ◌++◌, map, length, take, drop, fold, ◌==◌, nat_lt}
+use Rattle.std.specs.Prelude.{ℕ, ◌+◌, ◌-◌, min, Bool, true, false, cond, List, [], ◌∷◌, ◌++◌, map, length, take, drop, fold, ◌==◌, nat_lt}
 use Rattle.programs.specs.Program.{Meaning}
 use Rattle.records.specs.declared.Interval.{Interval}
 use Rattle.records.specs.declared.Record.{Record}
@@ -89,7 +89,7 @@ saved_now p l = with_rows l.intervals (at l.saved p (length (l.intervals p))) l.
 
 -- all above the greatest line within left is gone, and all are up
 abbrev pub cut_back : ℕ → Ledger → Ledger
-cut_back N l = with_rows (cut l.intervals (line_in N l)) (λ p. min (l.saved p) (line_in N l p)) (λ p. ltb p N) l
+cut_back N l = with_rows (cut l.intervals (line_in N l)) (λ p. min (l.saved p) (line_in N l p)) (λ p. nat_lt p N) l
 
 -- what an accepted call makes of the rows
 abbrev pub turns : Meaning → ℕ → Call → Ledger → Ledger

@@ -1,5 +1,5 @@
 -- What a store's records tell: the saved intervals of each process, and the checkpoints that stand.
-use Rattle.std.specs.Prelude.{◌≡◌, ℕ, ◌≤◌, cond, leb, List, [], ◌∷◌, ◌++◌, length, take, fold, filter, nat_le, slice_index}
+use Rattle.std.specs.Prelude.{◌≡◌, ℕ, ◌≤◌, cond, List, [], ◌∷◌, ◌++◌, length, take, fold, filter, nat_le, slice_index}
 use Rattle.programs.specs.Program.{Meaning}
 use Rattle.programs.specs.declared.values.State.{State}
 use Rattle.records.specs.declared.Checkpoint.{Checkpoint}
@@ -20,7 +20,7 @@ noted i (content.Interval x) = record { rows = at i.rows x.process (i.rows x.pro
 noted i (content.Checkpoint c) = record { rows = i.rows; checkpoints = at i.checkpoints c.process (i.checkpoints c.process ++ (c ∷ [])) }
 noted i (content.Line entries) = record {
   rows = λ p. take (slice_index entries p) (i.rows p);
-  checkpoints = λ p. filter (λ c. leb c.index (slice_index entries p)) (i.checkpoints p);
+  checkpoints = λ p. filter (λ c. nat_le c.index (slice_index entries p)) (i.checkpoints p);
 }
 
 abbrev pub reading : List Record → Image

@@ -4,7 +4,7 @@ use Rattle.programs.specs.Program.{Meaning}
 use Rattle.stores.specs.Calls.{armed}
 use Rattle.lines.specs.Intervals.{waiting, by_input}
 use Rattle.lines.specs.Lines.{greatest_line}
-use Rattle.histories.specs.Calls.{Call, input, deliver, save, mark, crash, recover, fail, restart, show, look, Answer, accepted, refused}
+use Rattle.histories.specs.Calls.{Call, input, deliver, save, mark, crash, recover, fail, restart, show, look, accepted, refused}
 use Rattle.histories.specs.Effects.{After, began, taking, saving, marking, crashed, settling, woken, with_store}
 use Rattle.histories.specs.Tests.{Test, tests, unsaved, left, shown, no_room, line_records}
 use Rattle.histories.specs.World.{World, darkened}

@@ -1,9 +1,9 @@
 -- What each call is refused for, in order: first its arguments from the left, then the state.
-use Rattle.std.specs.Prelude.{ℕ, zero, suc, ◌+◌, Bool, true, false, cond, not, ◌&&◌, ◌||◌, List, [], ◌∷◌, map, length, take, drop, ◌==◌, nat_le, nat_lt}
+use Rattle.std.specs.Prelude.{ℕ, zero, suc, ◌+◌, Bool, true, false, cond, not, ◌&&◌, ◌||◌, List, [], ◌∷◌, length, take, drop, ◌==◌, nat_le, nat_lt}
 use Rattle.records.specs.declared.Interval.{Interval}
 use Rattle.stores.specs.Calls.{room}
 use Rattle.stores.specs.Meaning as store
-use Rattle.lines.specs.Intervals.{Family, waiting, next_input, outputs}
+use Rattle.lines.specs.Intervals.{waiting, next_input, outputs}
 use Rattle.lines.specs.Lines.{Line, greatest_line}
 use Rattle.histories.specs.Calls.{Call, input, deliver, save, mark, crash, recover, fail, restart, show, look, Refusal, by_host, by_store}
 use Rattle.histories.specs.World.{World}
@@ -75,7 +75,7 @@ early_input w p n = (nat_lt (next_input (w.intervals p)) n, by_host 15 0)
 
 -- 16: no message waits
 abbrev pub none_waits : World → ℕ → ℕ → Test
-none_waits w q p = ((length (waiting w.intervals q p) == 0), by_host 16 0)
+none_waits w q p = (length (waiting w.intervals q p) == 0, by_host 16 0)
 
 -- 17: the process has 96 intervals
 abbrev pub full_row : World → ℕ → Test

@@ -1,5 +1,5 @@
 -- What holds of every history of a host.
-use Rattle.std.specs.Prelude.{◌≡◌, ℕ, ◌+◌, ◌-◌, ◌<◌, ◌≤◌, Bool, true, false, ◌&&◌, ◌||◌, List, [], ◌∷◌, ◌++◌, map, length, take, ◌==◌, slice_index}
+use Rattle.std.specs.Prelude.{◌≡◌, ℕ, ◌-◌, ◌<◌, ◌≤◌, Bool, true, false, ◌&&◌, ◌||◌, List, [], ◌∷◌, map, length, take, ◌==◌, slice_index}
 use Rattle.std.specs.List.{range_with_len}
 use Rattle.programs.specs.Program.{Meaning}
 use Rattle.runs.specs.Run.{Move}

@@ -1,5 +1,6 @@
 // What each call of a host means, and the theorem on every history of calls.
 #![tactic(auto)]
+
 ghost use Rattle.histories.specs.Scripts.{Scripts};
 ghost use Rattle.histories.specs.Theorem.{EveryHistory};
 

@@ -1,15 +1,16 @@
 -- What a run has recorded, cut back to a consistent line, is again what a run records.
-use Rattle.std.proofs.Common.{◌≡◌, ℕ, zero, suc, ◌+◌, ◌<◌, ◌≤◌, ◌⊎◌, List, [], ◌∷◌, ◌++◌, length, take, drop, sym, ap, ◌∙◌, subst, inl, inr, arith}
+use Rattle.std.proofs.Common.{◌≡◌, ℕ, zero, suc, ◌<◌, ◌≤◌, ◌⊎◌, List, [], ◌∷◌, ◌++◌, length, take, drop, sym, ap, ◌∙◌, subst, inl, inr, arith}
 use Rattle.std.specs.List.{AllByRecursion as All}
 use Rattle.std.proofs.ByRecursion.{All-take, All-drop}
 use Rattle.std.proofs.lemmas.List.{take-append-le, take_all, take-take, take-append-drop, drop_all, length_push}
+use Rattle.std.proofs.lemmas.Grind.{flat_map-append}
 use Rattle.std.proofs.lemmas.Bool.{cases_eq, cases_lt}
 use Rattle.programs.specs.Program.{Meaning}
 use Rattle.records.specs.declared.Interval.{Interval}
 use Rattle.lines.specs.Built.{Given, Gives, Grows, Built, begins, input, delivery, cut}
-use Rattle.lines.specs.Intervals.{Family, Message, play, channel, taken, waiting, next_input, vector_after, merged, begun, by_input, by_delivery}
+use Rattle.lines.specs.Intervals.{Family, Message, play, sent_in, channel, taken, waiting, next_input, vector_after, merged, begun, by_input, by_delivery}
 use Rattle.lines.specs.Lines.{Line, Backed, Consistent}
-use Rattle.lines.proofs.Indexes.{From, from_drop, sent_late, channel_append, indexed}
+use Rattle.lines.proofs.Indexes.{From, from_drop, sent_late, indexed}
 
 grows_same : {F : Family} {p : ℕ} {x : Interval} {G H : Family} → Grows F p x G → ((r : ℕ) → H r ≡ G r) → Grows F p x H
 grows_same {F} {p} grows same = record { here = same p ∙ grows.here; others = λ r n. same r ∙ grows.others r n }
@@ -85,7 +86,7 @@ rest_late k t xs from = go (cases_lt (length xs) k)
 still_first : (F : Family) (L : Line) (q p : ℕ) (m : Message) (ms : List Message) → From 0 (F q) → cut F L p ≡ F p → m.sent_at ≤ L q → waiting F q p ≡ m ∷ ms →
     (rest : List Message) × (waiting (cut F L) q p ≡ m ∷ rest)
 still_first F L q p m ms from whole early first =
-    let split : channel p (F q) ≡ channel p (take (L q) (F q)) ++ channel p (drop (L q) (F q)) = ap (channel p) (sym (take-append-drop (L q) (F q))) ∙ channel_append p (take (L q) (F q)) (drop (L q) (F q)) in
+    let split : channel p (F q) ≡ channel p (take (L q) (F q)) ++ channel p (drop (L q) (F q)) = ap (channel p) (sym (take-append-drop (L q) (F q))) ∙ flat_map-append (sent_in p) (take (L q) (F q)) (drop (L q) (F q)) in
     let found = first_part (L q) (taken q (F p)) (channel p (take (L q) (F q))) (channel p (drop (L q) (F q))) m ms (ap (drop (taken q (F p))) (sym split) ∙ first) (rest_late (L q) p (F q) from) early in
     (found.0, ap (λ xs. drop (taken q xs) (channel p (take (L q) (F q)))) whole ∙ found.1)
 

@@ -1,8 +1,7 @@
 -- What a run records has indexes without a gap, so a channel's messages come in the order of their intervals.
-use Rattle.std.proofs.Common.{◌≡◌, ℕ, zero, suc, ◌+◌, ◌<◌, ◌≤◌, eqb, ◌⊎◌, List, [], ◌∷◌, ◌++◌, map, length, take, drop, filter, sym, refl, ap, ◌∙◌, subst, inl, inr, arith}
+use Rattle.std.proofs.Common.{◌≡◌, ℕ, zero, suc, ◌+◌, ◌<◌, ◌≤◌, eqb, ◌⊎◌, List, [], ◌∷◌, ◌++◌, map, length, take, drop, filter, sym, subst, inl, inr, arith}
 use Rattle.std.specs.List.{AllByRecursion as All}
 use Rattle.std.proofs.ByRecursion.{All-append, All-weaker}
-use Rattle.std.proofs.lemmas.List.{append_assoc}
 use Rattle.std.proofs.lemmas.Bool.{cases_eq}
 use Rattle.programs.specs.Program.{Meaning}
 use Rattle.programs.specs.Values.{listed}
@@ -50,10 +49,6 @@ sent_early n t [] h = tt
 sent_early n t (x ∷ xs) h =
     All-append (λ m. m.sent_at ≤ n + suc (length xs)) (sent_in t x) (channel t xs) (all_sent_in (λ k. k ≤ n + suc (length xs)) t x (omega (arith, h.0)))
     (All-weaker (λ m. m.sent_at ≤ n + 1 + length xs) (λ m. m.sent_at ≤ n + suc (length xs)) (λ m k. omega arith) (channel t xs) (sent_early (n + 1) t xs h.1))
-
-pub channel_append : (t : ℕ) (xs ys : List Interval) → channel t (xs ++ ys) ≡ channel t xs ++ channel t ys
-channel_append t [] ys = refl
-channel_append t (x ∷ xs) ys = ap (λ ms. sent_in t x ++ ms) (channel_append t xs ys) ∙ sym (append_assoc (sent_in t x) (channel t xs) (channel t ys))
 
 -- a fact of each row lasts if it lasts where the row grows
 pub grows_each : (P : ℕ → List Interval → Type 0) {F G : Family} {p : ℕ} {x : Interval} → Grows F p x G → ((r : ℕ) → P r (F r)) → P p (F p ++ (x ∷ [])) → (r : ℕ) → P r (G r)

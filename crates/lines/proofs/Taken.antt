@@ -3,7 +3,7 @@ use Rattle.std.proofs.Common.{◌≡◌, ℕ, ◌+◌, ◌<◌, ◌≤◌, Bool,
 use Rattle.std.specs.Option.{option_to_list}
 use Rattle.std.specs.List.{flat_map}
 use Rattle.std.proofs.lemmas.List.Elements.{filter-append}
-use Rattle.std.proofs.lemmas.List.{append-nil, append_assoc, length-append, length-drop, drop-drop}
+use Rattle.std.proofs.lemmas.List.{flat_map_more, length-append, length-drop, drop-drop}
 use Rattle.std.proofs.lemmas.Bool.{cases_eq, eq-eqb, ne_eqb, cond-true, cond-false}
 use Rattle.programs.specs.Program.{Meaning}
 use Rattle.records.specs.declared.Interval.{Interval}
@@ -11,8 +11,7 @@ use Rattle.lines.specs.Built.{Given, Grows, Built, begins, input, delivery}
 use Rattle.lines.specs.Intervals.{Family, sent_in, channel, taken, outputs}
 
 pub joined_push : {X A : Type 0} (f : X → List A) (xs : List X) (x : X) → flat_map f (xs ++ (x ∷ [])) ≡ flat_map f xs ++ f x
-joined_push f [] x = append-nil (f x)
-joined_push f (y ∷ ys) x = ap (λ r. f y ++ r) (joined_push f ys x) ∙ sym (append_assoc (f y) (flat_map f ys) (f x))
+joined_push f xs x = sym (flat_map_more f [] xs x)
 
 pub taken_push : (q : ℕ) (xs : List Interval) (x : Interval) → taken q (xs ++ (x ∷ [])) ≡ taken q xs + cond (eqb x.source q) 1 0
 taken_push q xs x = ap length (filter-append (λ y. eqb y.source q) xs (x ∷ [])) ∙ length-append (filter (λ y. eqb y.source q) xs) (filter (λ y. eqb y.source q) (x ∷ [])) ∙ ap (λ n. taken q xs + n) (one (eqb x.source q))

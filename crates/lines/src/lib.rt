@@ -1,5 +1,6 @@
 // What the processes have done, what waits between them, and how far back a recovery must go: the laws.
 #![tactic(auto)]
+
 ghost use Rattle.lines.specs.Laws.{GreatestExists, GreatestUnique, CutRecords, RunRecords, VectorsTell};
 
 // The laws of lines stand; there is nothing to compute.

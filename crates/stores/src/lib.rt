@@ -1,5 +1,6 @@
 // Stores: what keeps records over a loss of power.
 #![tactic(auto)]
+
 pub mod fault;
 pub mod power;
 pub mod slots;

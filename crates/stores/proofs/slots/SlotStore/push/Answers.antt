@@ -3,8 +3,8 @@ use Rattle.std.proofs.lemmas.List.{length-take}
 use Rattle.stores.proofs.Laid.{grown}
 use Rattle.stores.proofs.slots.SlotStore.push.Goals as goal
 
-pub overflow-add-self : goal.overflow-add-self
-overflow-add-self c = omega (arith, simp length-take at c.len-count.ensures)
+pub overflow_add-self : goal.overflow_add-self
+overflow_add-self c = omega (arith, simp length-take at c.len-count.ensures)
 
 pub returns : goal.returns
 returns c =
