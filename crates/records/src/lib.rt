@@ -1,5 +1,6 @@
 // The records that a store keeps: what a process did, where it stood, and how far all went back.
 #![tactic(auto)]
+
 use programs::values::{Sends, State};
 
 // One interval of a process: the message that began it, and what the step then gave.
