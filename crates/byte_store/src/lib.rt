@@ -1,5 +1,6 @@
 // The byte store: records as frames in lent bytes.
 #![tactic(auto)]
+
 ghost use Rattle.std.specs.Prelude.{◌≡◌, ◌+◌, ◌<◌, ◌≤◌, min, true, [], ◌∷◌, ◌++◌, length, take, drop, replicate, is_ok};
 ghost use Rattle.stores.specs.Calls.{appended, synced, armed, revived, kept, unsafe_count, all_safe, with_records};
 ghost use Rattle.stores.specs.Faults.{answer};

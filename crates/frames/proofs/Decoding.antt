@@ -1,11 +1,9 @@
 -- What is written is read back, and what is torn is not.
-use Rattle.std.proofs.Common.{◌≡◌, ℕ, ◌+◌, ◌-◌, ◌%◌, ◌<◌, ◌≤◌, Bool, true, false, cond, eqb, List, [], ◌∷◌, ◌++◌, length, get_or, take, drop, replicate, Some, None, Decides, Option, sym, refl, ap, ◌∙◌, subst, ⊎_elim, append_assoc, arith}
-use Rattle.std.specs.List.{flat_map, AllByRecursion as All}
-use Rattle.std.proofs.lemmas.Slice.Eq.{bytes_eq-Decides, slice_eq-Decides}
+use Rattle.std.proofs.Common.{◌≡◌, ℕ, ◌+◌, ◌-◌, ◌%◌, ◌<◌, ◌≤◌, Bool, true, false, cond, eqb, List, [], ◌∷◌, ◌++◌, length, get_or, take, drop, replicate, Some, None, Option, sym, refl, ap, ◌∙◌, subst, ⊎_elim, append_assoc, arith}
+use Rattle.std.specs.List.{flat_map, AllByRecursion}
+use Rattle.std.proofs.lemmas.Slice.Eq.{bytes_eq-Decides}
 use Rattle.std.proofs.lemmas.List.{take_rest, take_at, drop_at, take-append-drop, length-append, length-take-le, get_or_at, get_or_append_left, get_or-append_right, get_or-take, get_or-replicate, get_or_past, length-replicate}
 use Rattle.std.proofs.lemmas.Bool.{cond-true, cond_both, cases_lt}
-use Rattle.std.proofs.lemmas.Bool.Decides.{same_from_decides, Decides-eqb}
-use Rattle.std.specs.Cmp.Lexicographic.{Matches}
 use Rattle.programs.specs.declared.values.Sends.{Sends}
 use Rattle.programs.specs.declared.values.Sends.TheVariants.{Nothing, One, Two}
 use Rattle.records.specs.declared.Content.{Content}
@@ -135,7 +133,7 @@ torn x k zeros h l = go (decoded (torn_bytes x k zeros h l)) refl
     go None e = refl
     go (Some y) e = absurd (never x k zeros h l y e)
 
-lists_back : (xs : List Record) (rest : List ℕ) → All Typed xs → reading (length xs) (flat_map framed xs ++ rest) ≡ xs
+lists_back : (xs : List Record) (rest : List ℕ) → AllByRecursion Typed xs → reading (length xs) (flat_map framed xs ++ rest) ≡ xs
 lists_back [] rest h = refl
 lists_back (x ∷ xs) rest h =
     let tail = flat_map framed xs ++ rest in
@@ -152,20 +150,17 @@ unfolding decoded
 decoded_nil = refl
 
 -- the test of the reader: the candidate's frame against the bytes
-pub tested : (bytes was out : List ℕ) (at end : ℕ) (x : Record) (r : Bool) → x ≡ candidate (take (length bytes - at) (drop at bytes)) → Wrote was 0 (framed x) out end → Matches (λ (a b : ℕ) (t : Bool). Decides t (a ≡ b)) (take (end - 0) out) (take (length (take (end - 0) out)) (take (length bytes - at) (drop at bytes))) r → decoded (drop at bytes) ≡ cond r (Some x) None
+pub tested : (bytes was out : List ℕ) (at end : ℕ) (x : Record) (r : Bool) → x ≡ candidate (take (length bytes - at) (drop at bytes)) → Wrote was 0 (framed x) out end → r ≡ begins (take (end - 0) out) (take (length bytes - at) (drop at bytes)) → decoded (drop at bytes) ≡ cond r (Some x) None
 unfolding decoded
 tested bytes was out at end x r same wrote m =
     let bs = drop at bytes in
     let all = take_rest bytes at in
-    let zero-off : end - 0 ≡ end = omega arith in
-    let part : take (end - 0) out ≡ framed x = ap (λ n. take n out) zero-off ∙ wrote.front in
-    let M : List ℕ → List ℕ → Type 0 = λ p s. Matches (λ (a b : ℕ) (t : Bool). Decides t (a ≡ b)) p (take (length p) s) r in
-    let clean : M (framed x) bs = subst (λ s. M (framed x) s) all (subst (λ p. M p (take (length bytes - at) bs)) part m) in
-    let answer : r ≡ begins (framed x) bs =
-    same_from_decides r (begins (framed x) bs) (slice_eq-Decides Decides-eqb _ _ r clean) (bytes_eq-Decides (framed x) (take (length (framed x)) bs)) in
-    let x-is : x ≡ candidate bs = same ∙ ap candidate all in
+    let zero_off : end - 0 ≡ end = omega arith in
+    let part : take (end - 0) out ≡ framed x = ap (λ n. take n out) zero_off ∙ wrote.front in
+    let answer : r ≡ begins (framed x) bs = m ∙ ap (λ s. begins (take (end - 0) out) s) all ∙ ap (λ p. begins p bs) part in
+    let x_is : x ≡ candidate bs = same ∙ ap candidate all in
     let P : Record → Type 0 = λ y. cond (begins (framed y) bs) (Some y) None ≡ cond r (Some x) None in
-    subst P x-is (ap (λ b. cond b (Some x) None) (sym answer))
+    subst P x_is (ap (λ b. cond b (Some x) None) (sym answer))
 
 -- what is decoded is strict, where it is a record of the code's types
 strict : (bs : List ℕ) (r : Option Record) → decoded bs ≡ r → ((x : Record) → r ≡ Some x → Typed x) → Strict bs r

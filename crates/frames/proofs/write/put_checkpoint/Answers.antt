@@ -4,8 +4,8 @@ use Rattle.frames.proofs.write.put_checkpoint.Goals as goal
 pub returns : goal.returns
 returns c =
     record {
-      typed = (c.put-word-at.ensures.typed, c.put-word-at-2.ensures.typed, c.put-word-at-3.ensures.typed, c.put-word.ensures.typed);
+      typed = (c.put_word-at.ensures.typed, c.put_word-at-2.ensures.typed, c.put_word-at-3.ensures.typed, c.put_word.ensures.typed);
       wrote =
-          then (then (then (then (same_part c.checkpoint-bytes.ensures c.put-at.ensures) c.put-word-at.ensures.wrote)
-          c.put-word-at-2.ensures.wrote) c.put-word-at-3.ensures.wrote) c.put-word.ensures.wrote;
+          then (then (then (then (same_part c.checkpoint_bytes.ensures c.put-at.ensures) c.put_word-at.ensures.wrote)
+          c.put_word-at-2.ensures.wrote) c.put_word-at-3.ensures.wrote) c.put_word.ensures.wrote;
     }

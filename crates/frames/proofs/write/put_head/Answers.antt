@@ -5,5 +5,5 @@ use Rattle.frames.proofs.write.put_head.Goals as goal
 
 pub returns : goal.returns
 returns c =
-    then (same_part (c.to-le-bytes.ensures ∙ ap short c.head-long.ensures.long) c.put-at.ensures)
-    (same_part (c.to-le-bytes-2.ensures ∙ ap short c.head-long.ensures.kind) c.put.ensures)
+    then (same_part (c.to_le_bytes.ensures ∙ ap short c.head-long.ensures.long) c.put-at.ensures)
+    (same_part (c.to_le_bytes-2.ensures ∙ ap short c.head-long.ensures.kind) c.put.ensures)

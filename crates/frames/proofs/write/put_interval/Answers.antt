@@ -4,8 +4,8 @@ use Rattle.frames.proofs.write.put_interval.Goals as goal
 pub returns : goal.returns
 returns c =
     record {
-      typed = (c.put-word-at.ensures.typed, c.put-sends-at.ensures.typed, c.put-output-at.ensures.typed, c.put-entries.ensures.typed);
+      typed = (c.put_word-at.ensures.typed, c.put_sends-at.ensures.typed, c.put_output-at.ensures.typed, c.put_entries.ensures.typed);
       wrote =
-          then (then (then (then (same_part c.interval-bytes.ensures c.put-at.ensures) c.put-word-at.ensures.wrote)
-          c.put-sends-at.ensures.wrote) c.put-output-at.ensures.wrote) c.put-entries.ensures.wrote;
+          then (then (then (then (same_part c.interval_bytes.ensures c.put-at.ensures) c.put_word-at.ensures.wrote)
+          c.put_sends-at.ensures.wrote) c.put_output-at.ensures.wrote) c.put_entries.ensures.wrote;
     }

@@ -3,4 +3,4 @@ use Rattle.frames.proofs.write.put_send.Goals as goal
 
 pub returns : goal.returns
 returns c =
-    record { typed = c.put-word.ensures.typed; wrote = then c.put-at.ensures c.put-word.ensures.wrote }
+    record { typed = c.put_word.ensures.typed; wrote = then c.put-at.ensures c.put_word.ensures.wrote }

@@ -4,7 +4,7 @@ use Rattle.frames.specs.Frames.{framed}
 use Rattle.byte_store.specs.Journals.{listed}
 use Rattle.byte_store.proofs.Walks.{ends_all, ends_less, stopped, length_listed}
 use Rattle.byte_store.proofs.journal.Journal.standing.Goals as goal
-use Rattle.byte_store.proofs.journal.Journal.standing.Goals.{then-loop-n-test+else-saturating-sub-j, else-loop-n-test}
+use Rattle.byte_store.proofs.journal.Journal.standing.Goals.{then-loop-n-test+else-saturating_sub-j, else-loop-n-test}
 
 pub loop-n-init : goal.loop-n-init
 loop-n-init c =
@@ -34,7 +34,7 @@ returns c =
           stopped s c.args.j c.args.safe c.loop-n.n c.place-from.result c.loop-n.end w c.loop-n.invariant.0
           c.place-from.ensures c.loop-n.invariant.1
           (elim c.loop-n-test.branch [
-            | then-loop-n-test+else-saturating-sub-j t ↦ inr (omega (arith, t.saturating-sub.ensures, t.if-saturating-sub-j.false))
+            | then-loop-n-test+else-saturating_sub-j t ↦ inr (omega (arith, t.saturating_sub.ensures, t.if-saturating_sub-j.false))
             | else-loop-n-test t ↦ inl t.loop-n-test.false
           ])
           (c.loop-n.invariant.2 w);
