@@ -1,6 +1,6 @@
 -- A recovery and a restart, as the world of a host.
 use Rattle.std.proofs.Common.{◌≡◌, ℕ, ◌+◌, ◌≤◌, Bool, true, false, cond, not, ltb, ◌⊎◌, List, [], ◌∷◌, ◌++◌, length, take, None, Ok, Err, Result, sym, refl, ap, ◌∙◌, subst, inl, inr}
-use Rattle.std.specs.List.{AllByRecursion as All}
+use Rattle.std.specs.List.{AllByRecursion}
 use Rattle.programs.specs.Program.{Meaning}
 use Rattle.stores.specs.Calls.{Outcome, room, revived, all_safe, with_power, with_records}
 use Rattle.stores.specs.Meaning as store
@@ -55,10 +55,10 @@ module _ (M : Meaning) (t : Table) (d : Bool) (m : store.Meaning) where
     counts = counted ∙ ap (line_records N w.saved) (named N (family t) (left w) line each)
 
     -- 18: after the two tests before it
-    pub recover_full : (r : calls.Refusal) → All (λ x. x.0 ≡ false) (take 2 (tests N w calls.recover)) → First (room_test n ∷ []) r → First (tests N w calls.recover) r
+    pub recover_full : (r : calls.Refusal) → AllByRecursion (λ x. x.0 ≡ false) (take 2 (tests N w calls.recover)) → First (room_test n ∷ []) r → First (tests N w calls.recover) r
     recover_full r before first = inr (before.0, inr (before.1.0, subst (λ k. First (room_test k ∷ []) r) counts first))
 
-    pub recover_ruled : (a : After) → All (λ x. x.0 ≡ false) (take 2 (tests N w calls.recover)) → All (λ x. x.0 ≡ false) (room_test n ∷ []) → a ≡ going-back M N w (line_of line) → a ≡ rule M N 0 w calls.recover
+    pub recover_ruled : (a : After) → AllByRecursion (λ x. x.0 ≡ false) (take 2 (tests N w calls.recover)) → AllByRecursion (λ x. x.0 ≡ false) (room_test n ∷ []) → a ≡ going-back M N w (line_of line) → a ≡ rule M N 0 w calls.recover
     recover_ruled a before enough is =
         is ∙ ap (going-back M N w) (named N (family t) (left w) line each)
         ∙ sym (passes w (effect M N 0 w calls.recover) (tests N w calls.recover) (before.0, (before.1.0, (subst (λ k. ltb (room m) k ≡ false) counts enough.0, tt))))
@@ -91,7 +91,7 @@ module _ (t u : Table) (d : Bool) (m n : store.Meaning) (kept : ℕ) (revives : 
   })
 
 -- a restart that passed its first tests goes on in the world w that it woke to, on N processes
-module _ (M : Meaning) (N : ℕ) (t : Table) (d : Bool) (m : store.Meaning) (w : World) (kept j : ℕ) (wakes : w ≡ woken N kept (world_of t d m)) (none : All (λ x. x.0 ≡ false) (tests N (world_of t d m) (calls.restart j))) where
+module _ (M : Meaning) (N : ℕ) (t : Table) (d : Bool) (m : store.Meaning) (w : World) (kept j : ℕ) (wakes : w ≡ woken N kept (world_of t d m)) (none : AllByRecursion (λ x. x.0 ≡ false) (tests N (world_of t d m) (calls.restart j))) where
   restart_ruled : (a : After) → a ≡ restarting M N w → a ≡ rule M N kept (world_of t d m) (calls.restart j)
   restart_ruled a is = is ∙ ap (restarting M N) wakes ∙ sym (passes (world_of t d m) (effect M N kept (world_of t d m) (calls.restart j)) (tests N (world_of t d m) (calls.restart j)) none)
 
@@ -107,7 +107,7 @@ module _ (M : Meaning) (N : ℕ) (t : Table) (d : Bool) (m : store.Meaning) (w :
         ∙ sym (stops (darkened w.store w) (settling M N w.saved w) (no_room w (line_records N w.saved (greatest_line N w.intervals w.saved)) ∷ []) r
         (subst (λ k. First ((ltb (room w.store) k, by_store 18 (store.count w.store)) ∷ []) r) counts_all first)))
 
-    pub restart_settled : (a : After) → All (λ (x : Test). x.0 ≡ false) ((ltb (room w.store) n, by_store 18 (store.count w.store)) ∷ []) → a ≡ going-back M N w (line_of line) → a ≡ rule M N kept (world_of t d m) (calls.restart j)
+    pub restart_settled : (a : After) → AllByRecursion (λ (x : Test). x.0 ≡ false) ((ltb (room w.store) n, by_store 18 (store.count w.store)) ∷ []) → a ≡ going-back M N w (line_of line) → a ≡ rule M N kept (world_of t d m) (calls.restart j)
     restart_settled a enough is = restart_ruled a
         (is ∙ ap (going-back M N w) (named N w.intervals w.saved line each)
         ∙ sym (passes (darkened w.store w) (settling M N w.saved w) (no_room w (line_records N w.saved (greatest_line N w.intervals w.saved)) ∷ [])

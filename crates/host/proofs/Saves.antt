@@ -1,6 +1,6 @@
 -- A process that is saved, marked or crashed, as the world of a host.
 use Rattle.std.proofs.Common.{◌≡◌, ℕ, ◌+◌, Bool, false, List, [], ◌∷◌, ◌++◌, map, length, drop, sym, refl, ap, ◌∙◌, subst, arith}
-use Rattle.std.specs.List.{AllByRecursion as All}
+use Rattle.std.specs.List.{AllByRecursion}
 use Rattle.std.proofs.lemmas.List.{nil_from_length}
 use Rattle.programs.specs.Program.{Meaning}
 use Rattle.records.specs.declared.Interval.{Interval}
@@ -27,7 +27,7 @@ module _ (M : Meaning) (t : Table) (d : Bool) (m : store.Meaning) where
   w = world_of t d m
 
   -- what follows where no test holds, for the process that the check found
-  pub let_through : (c : ℕ → calls.Call) (p process : ℕ) → p ≡ process → All (λ x. x.0 ≡ false) (tests N w (c process)) → (a : After) → a ≡ effect M N 0 w (c p) → a ≡ rule M N 0 w (c process)
+  pub let_through : (c : ℕ → calls.Call) (p process : ℕ) → p ≡ process → AllByRecursion (λ x. x.0 ≡ false) (tests N w (c process)) → (a : After) → a ≡ effect M N 0 w (c p) → a ≡ rule M N 0 w (c process)
   let_through c p process same none a e = e ∙ ap (λ k. effect M N 0 w (c k)) same ∙ sym (passes w (effect M N 0 w (c process)) (tests N w (c process)) none)
 
   -- with nothing unsaved nothing is written

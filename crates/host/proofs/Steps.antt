@@ -1,6 +1,6 @@
 -- A process that began an interval, as the world of a host.
 use Rattle.std.proofs.Common.{◌≡◌, ℕ, ◌+◌, Bool, false, List, [], ◌∷◌, length, Some, None, sym, refl, ap, ◌∙◌, subst, arith}
-use Rattle.std.specs.List.{AllByRecursion as All, slice_get}
+use Rattle.std.specs.List.{AllByRecursion, slice_get}
 use Rattle.programs.specs.Program.{Meaning}
 use Rattle.records.specs.declared.Interval.{Interval}
 use Rattle.stores.specs.Meaning as store
@@ -42,7 +42,7 @@ module _ (M : Meaning) (t u : Table) (dark : Bool) (m : store.Meaning) where
   abbrev Begun : ℕ → ℕ → Message → List ℕ → Type 0
   Begun p source message vector = Changed p (stepped M p (begun_by M N p source message vector (row_of t p)) (row_of t p)) t u
 
-  pub input_ruled : (q p n v r : ℕ) (vector : List ℕ) → q ≡ p → All (λ x. x.0 ≡ false) (tests N w (calls.input p n v)) →
+  pub input_ruled : (q p n v r : ℕ) (vector : List ℕ) → q ≡ p → AllByRecursion (λ x. x.0 ≡ false) (tests N w (calls.input p n v)) →
       vector ≡ (by_input M N q (row_of t q).state (row_of t q).intervals v).vector → r ≡ length (row_of t q).intervals + 1 →
       Begun q 8 (record { value = v; sent_at = 0 }) vector → ◌≡◌ {A = After} (accepted (r ∷ []), world_of u dark m) (rule M N 0 w (calls.input p n v))
   input_ruled q p n v r vector same none vector-is index begun =
@@ -57,7 +57,7 @@ module _ (M : Meaning) (t u : Table) (dark : Bool) (m : store.Meaning) where
   taking_first q p first [] e = absurd (let z : ◌≡◌ {A = ℕ} 0 1 = cc in omega arith)
   taking_first q p first (x ∷ ms) e = ap (λ y. began M p (by_delivery M N (row_of t p).state (family t) q p y) w) (cc)
 
-  pub deliver_ruled : (a b q p r : ℕ) (first : Message) (vector : List ℕ) → a ≡ q → b ≡ p → All (λ x. x.0 ≡ false) (tests N w (calls.deliver q p)) → slice_get (waiting (family t) q p) 0 ≡ Some first →
+  pub deliver_ruled : (a b q p r : ℕ) (first : Message) (vector : List ℕ) → a ≡ q → b ≡ p → AllByRecursion (λ x. x.0 ≡ false) (tests N w (calls.deliver q p)) → slice_get (waiting (family t) q p) 0 ≡ Some first →
       vector ≡ (by_delivery M N (row_of t b).state (family t) a b first).vector → r ≡ length (row_of t b).intervals + 1 →
       Begun b a first vector → ◌≡◌ {A = After} (accepted (r ∷ []), world_of u dark m) (rule M N 0 w (calls.deliver q p))
   deliver_ruled a b q p r first vector sender receiver none is-first vector-is index begun =

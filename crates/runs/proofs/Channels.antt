@@ -1,7 +1,7 @@
 -- What a push and a removal do to the channels of a list of messages, and a push to the outputs.
 use Rattle.std.proofs.Common.{◌≡◌, ℕ, suc, ◌+◌, ◌-◌, ◌<◌, ◌≤◌, Bool, true, ◌&&◌, eqb, ltb, ◌⊎◌, List, [], ◌∷◌, ◌++◌, map, length, get_or, take, drop, Some, None, filter, Option, sym, refl, ap, ◌∙◌, inl, inr, arith, drop-cons}
 use Rattle.std.specs.Option.{option_to_list}
-use Rattle.std.specs.List.{AllByRecursion as All}
+use Rattle.std.specs.List.{AllByRecursion}
 use Rattle.std.proofs.lemmas.List.Elements.{filter-append}
 use Rattle.std.proofs.ByRecursion.{kept_by_passes, All-get_or, All-map, All-weaker}
 use Rattle.std.proofs.lemmas.List.{map-append, take-append-drop, take_more, get_or_default, get_or_append_left, get_or-append_right, length-append}
@@ -72,7 +72,7 @@ outputs_others r p (Some v) n = grind (arith, nat_tests)
 
 -- a bound on a field of each message lasts over a push; the two lengths are those of the lists
 pub pushed_below : (field : Message → ℕ) (n : ℕ) (old new all : List Message) (before after : ℕ) → before ≡ length old → after ≡ length all → all ≡ old ++ new →
-    ((k : ℕ) (d : Message) → k < before → field (get_or old k d) < n) → All (λ m. field m < n) new → (k : ℕ) (d : Message) → k < after → field (get_or all k d) < n
+    ((k : ℕ) (d : Message) → k < before → field (get_or old k d) < n) → AllByRecursion (λ m. field m < n) new → (k : ℕ) (d : Message) → k < after → field (get_or all k d) < n
 pushed_below field n old new all before after e f joined bound fresh k d h = rw joined (go (cases_lt k (length old)))
   where
     go : (k < length old) ⊎ (length old ≤ k) → field (get_or (old ++ new) k d) < n
@@ -81,10 +81,10 @@ pushed_below field n old new all before after e f joined bound fresh k d h = rw 
         let within : k - length old < length new = omega (arith, simp length-append at (ap length joined)) in
         rw (get_or-append_right old new (length old) k d refl a) (All-get_or (λ m. field m < n) new (k - length old) d within fresh)
 
-pub own_sources : (p n : ℕ) (ms : List Send) → p < n → All (λ m. m.source < n) (map (message p) ms)
+pub own_sources : (p n : ℕ) (ms : List Send) → p < n → AllByRecursion (λ m. m.source < n) (map (message p) ms)
 own_sources p n [] h = tt
 own_sources p n (m ∷ ms) h = (h, own_sources p n ms h)
 
-pub reached_targets : (p n : ℕ) (ms all : List Send) → ms ≡ reaching n all → All (λ m. m.target < n) (map (message p) ms)
+pub reached_targets : (p n : ℕ) (ms all : List Send) → ms ≡ reaching n all → AllByRecursion (λ m. m.target < n) (map (message p) ms)
 reached_targets p n ms all e = All-map (λ (m : Message). m.target < n) (message p) ms
     (rw e (All-weaker (λ m. ltb m.target n ≡ true) (λ m. m.target < n) (λ m h. ltb-true m.target n h) (reaching n all) (kept_by_passes (λ m. ltb m.target n) all)))

@@ -1,6 +1,6 @@
 // The greatest recovery line, by the sent-at of the records alone.
 ghost use Rattle.std.specs.Prelude.{◌≡◌, ℕ, ◌<◌, ◌≤◌, true, false, length, take, Decides, sum};
-ghost use Rattle.std.specs.List.{AllByRecursion as All};
+ghost use Rattle.std.specs.List.{AllByRecursion};
 ghost use Rattle.lines.specs.Lines.{Backed, clipped};
 ghost use Rattle.tables.specs.Tables.{processes, family};
 ghost use Rattle.tables.specs.Answers.{line_of, GreatestLine};
@@ -40,7 +40,7 @@ fn front(xs: &[Interval], line: &[u8; 8], count: u8) -> Found
     requires few { length xs.now ≤ 96 }
     requires eight { count ≤ 8 }
     ensures longest { Longest count (line_of line.now) xs.now result.length }
-    ensures needs { All (Backed count (line_of result.needs)) (take result.length xs.now) }
+    ensures needs { AllByRecursion (Backed count (line_of result.needs)) (take result.length xs.now) }
 {
     let mut needs = [0; 8];
     for (i, x) in xs.iter().enumerate() {
@@ -79,7 +79,7 @@ fn lower_one(table: &Table, process: u8, line: &mut [u8; 8], needs: &mut [[u8; 8
     requires known { Known (processes table.now) (family table.now) line.old needs.old }
     ensures lower { Lower (processes table.now) (family table.now) line.old line.new }
     ensures less { result ≡ true → sum line.new < sum line.old }
-    ensures stays { result ≡ false → (line.new ≡ line.old) × All (Backed (processes table.now) (line_of line.new)) (take (line_of line.new process) (family table.now process)) }
+    ensures stays { result ≡ false → (line.new ≡ line.old) × AllByRecursion (Backed (processes table.now) (line_of line.new)) (take (line_of line.new process) (family table.now process)) }
     ensures known { Known (processes table.now) (family table.now) line.new needs.new }
 {
     let count = table.processes();

@@ -1,5 +1,5 @@
 use Rattle.std.proofs.Common.{length, take, sym, ◌∙◌, subst, arith}
-use Rattle.std.specs.List.{AllByRecursion as All}
+use Rattle.std.specs.List.{AllByRecursion}
 use Rattle.std.proofs.ByRecursion.{All-more, All-weaker}
 use Rattle.std.proofs.lemmas.List.{take_all}
 use Rattle.std.proofs.lemmas.Bool.{both_ways}
@@ -29,5 +29,5 @@ returns c =
     let xs = c.args.xs.now in let i = c.loop-i.i in
     record {
       longest = front_whole c.args.count (line_of c.args.line.now) xs i c.loop-i-test.false c.loop-i.invariant.0;
-      needs = subst (All (Backed c.args.count (line_of c.loop-i.needs))) (take_all i xs c.loop-i-test.false ∙ sym (take_all (length xs) xs (omega arith))) c.loop-i.invariant.1;
+      needs = subst (AllByRecursion (Backed c.args.count (line_of c.loop-i.needs))) (take_all i xs c.loop-i-test.false ∙ sym (take_all (length xs) xs (omega arith))) c.loop-i.invariant.1;
     }

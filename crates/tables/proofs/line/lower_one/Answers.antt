@@ -1,5 +1,5 @@
 use Rattle.std.proofs.Common.{◌≡◌, ◌-◌, ◌<◌, ◌≤◌, length, take, refl, ap, ◌∙◌, subst, arith}
-use Rattle.std.specs.List.{AllByRecursion as All}
+use Rattle.std.specs.List.{AllByRecursion}
 use Rattle.std.proofs.lemmas.List.{length-take-le, take-take}
 use Rattle.std.proofs.lemmas.Bool.{ltb-true, ltb-false, false≢true}
 use Rattle.lines.specs.Lines.{Backed}
@@ -33,9 +33,9 @@ returns c =
     let front : Longest N (line_of xs) (take (line_of xs p) (F p)) n =
     subst (λ M. Longest M (line_of xs) (take (line_of xs p) (F p)) n) count (subst (λ ys. Longest c.processes-count.result (line_of xs) ys n) same c.front-found.ensures.longest) in
     let within : n ≤ line_of xs p = omega (arith, front.within, length-take-le (line_of xs p) (F p) rows) in
-    let backed : All (Backed N (line_of new)) (take n (F p)) =
-    subst (All (Backed N (line_of new))) (take-take n (line_of xs p) (F p) within)
-    (subst (λ M. All (Backed M (line_of new)) (take n (take (line_of xs p) (F p)))) count (subst (λ ys. All (Backed c.processes-count.result (line_of new)) (take n ys)) same c.front-found.ensures.needs)) in
+    let backed : AllByRecursion (Backed N (line_of new)) (take n (F p)) =
+    subst (AllByRecursion (Backed N (line_of new))) (take-take n (line_of xs p) (F p) within)
+    (subst (λ M. AllByRecursion (Backed M (line_of new)) (take n (take (line_of xs p) (F p)))) count (subst (λ ys. AllByRecursion (Backed c.processes-count.result (line_of new)) (take n ys)) same c.front-found.ensures.needs)) in
     record {
       lower = lower_front N F xs p n c.requires.exists place rows front;
       less = λ e. lower_less N F xs p n c.requires.exists place rows front (ltb-true n (line_of xs p) e);

@@ -8,7 +8,7 @@ use Rattle.histories.specs.Calls.{accepted, refused}
 use Rattle.histories.specs.Effects.{After, woken}
 use Rattle.histories.specs.Rules.{rule}
 use Rattle.histories.specs.Tests.{tests}
-use Rattle.std.specs.List.{AllByRecursion as All}
+use Rattle.std.specs.List.{AllByRecursion}
 use Rattle.checks.specs.Refusals.{refusal}
 use Rattle.checks.specs.Worlds.{world_of}
 use Rattle.checks.specs.declared.refusal.Refusal.TheVariants.{StoreDied}
@@ -33,7 +33,7 @@ returns-in-Err g c =
     let same : processes u ≡ processes t = ap (λ x. min x 8) c.wake.ensures.loads.count in
     let wakes = woken_is t u d m n k c.wake.ensures.revives dark c.wake.ensures.loads in
     let wakes-there = subst (λ (x : ℕ). world_of u d n ≡ woken x k (world_of t d m)) (sym same) wakes in
-    let none-there = subst (λ (x : ℕ). All (λ y. y.0 ≡ false) (tests x (world_of t d m) (calls.restart j))) (sym same) none in
+    let none-there = subst (λ (x : ℕ). AllByRecursion (λ y. y.0 ≡ false) (tests x (world_of t d m) (calls.restart j))) (sym same) none in
     let v = world_of c.clear-all.new.table d n in
     let answer = refused (refusal c.in-Err.refusal) in
     record {
@@ -55,7 +55,7 @@ returns-in-err-settle g c =
     let same : processes u ≡ processes t = ap (λ x. min x 8) c.wake.ensures.loads.count in
     let wakes = woken_is t u d m n k c.wake.ensures.revives (not-false d none.1.0) c.wake.ensures.loads in
     let wakes-there = subst (λ (x : ℕ). world_of u d n ≡ woken x k (world_of t d m)) (sym same) wakes in
-    let none-there = subst (λ (x : ℕ). All (λ y. y.0 ≡ false) (tests x (world_of t d m) (calls.restart j))) (sym same) none in
+    let none-there = subst (λ (x : ℕ). AllByRecursion (λ y. y.0 ≡ false) (tests x (world_of t d m) (calls.restart j))) (sym same) none in
     let line = c.committed-line-line.result in let each = c.committed-line-line.ensures in
     let end = ends (processes u) (family u) (world_of u d n).saved line each in
     let e = err_from_is_err_and c.from-residual-in-err-settle.result c.from-residual-in-err-settle.ensures.1 in
@@ -79,7 +79,7 @@ returns-in-ok-settle g c =
     let same : processes u ≡ processes t = ap (λ x. min x 8) c.wake.ensures.loads.count in
     let wakes = woken_is t u d m n k c.wake.ensures.revives (not-false d none.1.0) c.wake.ensures.loads in
     let wakes-there = subst (λ (x : ℕ). world_of u d n ≡ woken x k (world_of t d m)) (sym same) wakes in
-    let none-there = subst (λ (x : ℕ). All (λ y. y.0 ≡ false) (tests x (world_of t d m) (calls.restart j))) (sym same) none in
+    let none-there = subst (λ (x : ℕ). AllByRecursion (λ y. y.0 ≡ false) (tests x (world_of t d m) (calls.restart j))) (sym same) none in
     let line = c.committed-line-line.result in let each = c.committed-line-line.ensures in
     let end = ends (processes u) (family u) (world_of u d n).saved line each in
     let done = c.in-ok-settle.ensures in
