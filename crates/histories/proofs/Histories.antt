@@ -1,6 +1,6 @@
 -- What holds at the end of every history, and what lasts from one moment to a later one.
 use Rattle.std.proofs.Common.{◌≡◌, ℕ, ◌<◌, ◌≤◌, true, false, eqb, ltb, ◌⊎◌, List, [], ◌∷◌, ◌++◌, length, take, sym, refl, ap, ◌∙◌, subst, inl, inr, arith}
-use Rattle.std.specs.List.{AllByRecursion}
+use Rattle.std.specs.List.{AllByRecursion as All}
 use Rattle.std.proofs.lemmas.List.{take_all, length-take, append_assoc}
 use Rattle.std.proofs.lemmas.Bool.{eq-eqb, and_from, or_left, or_right, or_cases, ltb-true, cond-true}
 use Rattle.programs.specs.Program.{Meaning, zeros}
@@ -115,7 +115,7 @@ module _ (S R : Type 0) (M : Meaning) (N : ℕ) (few : N ≤ 8) where
       indexed = h.family.indexed;
       idle = h.family.idle;
       built = h.family.built;
-      consistent = λ p k. subst (AllByRecursion (Backed N (committed N w))) (sym (front_take (committed N w p) (w.intervals p) (F p) (h.rows.fronts p) (best.inside p k).1)) (best.consistent p k);
+      consistent = λ p k. subst (All (Backed N (committed N w))) (sym (front_take (committed N w p) (w.intervals p) (F p) (h.rows.fronts p) (best.inside p k).1)) (best.consistent p k);
     };
     rows = h.rows;
     stored = record {
@@ -155,7 +155,7 @@ module _ (S R : Type 0) (M : Meaning) (N : ℕ) (few : N ≤ 8) where
           (omega (arith, low q k, (follow_all (committed N w) before (rewitness K h awake) history).holds.rows.bounded q))
 
       consistent : Consistent N v.intervals (committed N w)
-      consistent q k = subst (AllByRecursion (Backed N (committed N w))) (front q k) ((follow_all (committed N w) before (rewitness K h awake) history).holds.family.consistent q k)
+      consistent q k = subst (All (Backed N (committed N w))) (front q k) ((follow_all (committed N w) before (rewitness K h awake) history).holds.family.consistent q k)
 
       within : Within N v.intervals v.saved (committed N w)
       within q k = (low q k, omega (arith, low q k, (follow_all (committed N w) before (rewitness K h awake) history).holds.rows.bounded q))

@@ -1,6 +1,6 @@
 -- What holds of a host at every moment of a history, with F all that could still be remembered and K a line that lasts.
 use Rattle.std.proofs.Common.{◌≡◌, ℕ, ◌+◌, ◌<◌, ◌≤◌, true, false, ◌⊎◌, List, [], ◌∷◌, length, take, sym, ap, ◌∙◌, subst, inl, inr, arith}
-use Rattle.std.specs.List.{AllByRecursion}
+use Rattle.std.specs.List.{AllByRecursion as All}
 use Rattle.std.proofs.ByRecursion.{All-push}
 use Rattle.std.proofs.lemmas.List.{take-append-le, length_push}
 use Rattle.std.proofs.lemmas.Bool.{cases_eq}
@@ -21,7 +21,7 @@ use Rattle.histories.proofs.Remembered.{Remembered}
 -- what holds of all that could be remembered
 pub record FamilyHolds (S R : Type 0) (M : Meaning) (N : ℕ) (given : Given) (K : Line) (F : Family) : Type 0 where
   pub short : (p : ℕ) → length (F p) ≤ 96
-  pub named : (p : ℕ) → AllByRecursion (λ x. x.process ≡ p) (F p)
+  pub named : (p : ℕ) → All (λ x. x.process ≡ p) (F p)
   pub indexed : (p : ℕ) → From 0 (F p)
   pub idle : (p : ℕ) → N ≤ p → F p ≡ []
   pub consistent : Consistent N F K
@@ -97,9 +97,9 @@ module _ (S : Type 0) (M : Meaning) (N : ℕ) (K : Line) where
     pub grown_family : {R : Type 0} {given wider : Given} → FamilyHolds S R M N given K F → ((r : ℕ) → r < N → K r ≤ length (F r)) → p < N → length (F p) < 96 → x.process ≡ p → x.index ≡ length (F p) + 1 → (S → R → Built M N wider G) → FamilyHolds S R M N wider K G
     grown_family f below exists room named index built = record {
       short = grows_each (λ r xs. length xs ≤ 96) grows f.short (simp length_push (omega arith));
-      named = grows_each (λ r xs. AllByRecursion (λ y. y.process ≡ r) xs) grows f.named (All-push (λ y. y.process ≡ p) (F p) x (f.named p) named);
+      named = grows_each (λ r xs. All (λ y. y.process ≡ r) xs) grows f.named (All-push (λ y. y.process ≡ p) (F p) x (f.named p) named);
       indexed = grows_each (λ r xs. From 0 xs) grows f.indexed (from_push 0 (F p) x (f.indexed p) (omega arith));
       idle = λ r h. grows.others r (λ e. omega arith) ∙ f.idle r h;
-      consistent = λ r h. subst (AllByRecursion (Backed N K)) (sym (grown_lasts below r h)) (f.consistent r h);
+      consistent = λ r h. subst (All (Backed N K)) (sym (grown_lasts below r h)) (f.consistent r h);
       built = built;
     }

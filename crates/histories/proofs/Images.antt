@@ -1,6 +1,6 @@
 -- What each kind of record does to what is read.
 use Rattle.std.proofs.Common.{◌≡◌, ℕ, eqb, List, [], ◌∷◌, ◌++◌, map, fold, sym, refl, ap, ◌∙◌, subst}
-use Rattle.std.specs.List.{AllByRecursion}
+use Rattle.std.specs.List.{AllByRecursion as All}
 use Rattle.std.proofs.lemmas.List.{append-nil, append_assoc}
 use Rattle.std.proofs.lemmas.List.Sums.{fold-append}
 use Rattle.std.proofs.lemmas.Bool.{eq-eqb, ne_eqb, cond-true, cond-false}
@@ -24,14 +24,14 @@ pub reading_append : (rs ss : List Record) → reading (rs ++ ss) ≡ reading_on
 reading_append rs ss = fold-append (λ i r. noted i r.content) (record { rows = λ p. []; checkpoints = λ p. [] }) rs ss
 
 -- intervals of process p are added to its row, and to no other
-pub rows_more : (i : Image) (p : ℕ) (xs : List Interval) → AllByRecursion (λ x. x.process ≡ p) xs → (reading_on i (map interval_record xs)).rows p ≡ i.rows p ++ xs
+pub rows_more : (i : Image) (p : ℕ) (xs : List Interval) → All (λ x. x.process ≡ p) xs → (reading_on i (map interval_record xs)).rows p ≡ i.rows p ++ xs
 rows_more i p [] named = sym (append-nil (i.rows p))
 rows_more i p (x ∷ xs) named =
     rows_more (noted i (interval_record x).content) p xs named.1
     ∙ ap (λ ys. ys ++ xs) (subst (λ q. at i.rows q (i.rows q ++ (x ∷ [])) p ≡ i.rows p ++ (x ∷ [])) (sym named.0) (at_same i.rows p (i.rows p ++ (x ∷ []))))
     ∙ append_assoc (i.rows p) (x ∷ []) xs
 
-pub rows_others : (i : Image) (p : ℕ) (xs : List Interval) → AllByRecursion (λ x. x.process ≡ p) xs → (r : ℕ) → (r ≡ p → ⊥) → (reading_on i (map interval_record xs)).rows r ≡ i.rows r
+pub rows_others : (i : Image) (p : ℕ) (xs : List Interval) → All (λ x. x.process ≡ p) xs → (r : ℕ) → (r ≡ p → ⊥) → (reading_on i (map interval_record xs)).rows r ≡ i.rows r
 rows_others i p [] named r n = refl
 rows_others i p (x ∷ xs) named r n =
     rows_others (noted i (interval_record x).content) p xs named.1 r n

@@ -1,6 +1,6 @@
 -- Going back to the greatest line keeps what holds.
 use Rattle.std.proofs.Common.{◌≡◌, ℕ, zero, suc, ◌+◌, ◌<◌, ◌≤◌, min, Bool, true, false, cond, ltb, leb, ◌⊎◌, List, [], ◌∷◌, ◌++◌, map, length, get_or, take, drop, fold, sym, refl, ap, ◌∙◌, subst, inl, inr, arith}
-use Rattle.std.specs.List.{range_with_len, AllByRecursion}
+use Rattle.std.specs.List.{range_with_len, AllByRecursion as All}
 use Rattle.std.proofs.lemmas.List.FromFn.{get_or-map-range_with_len}
 use Rattle.std.proofs.ByRecursion.{All-take}
 use Rattle.std.proofs.lemmas.List.{append-nil, take-take, take_all, take-append-drop, length-take}
@@ -40,10 +40,10 @@ take_min a b xs = go (cases_lt b a)
     go (inr h) = take-take a b xs h ∙ ap (λ n. take n xs) (omega arith)
 
 -- a replay begins at a checkpoint that stands, or at the start
-origin_good : (M : Meaning) (p : ℕ) (xs : List Interval) (cs : List Checkpoint) → AllByRecursion (PlayedFront M p xs) cs → ((origin M p cs).0 ≤ length xs) × ((origin M p cs).1 ≡ play M p (take (origin M p cs).0 xs))
+origin_good : (M : Meaning) (p : ℕ) (xs : List Interval) (cs : List Checkpoint) → All (PlayedFront M p xs) cs → ((origin M p cs).0 ≤ length xs) × ((origin M p cs).1 ≡ play M p (take (origin M p cs).0 xs))
 origin_good M p xs cs all = go (0, M.start p) (omega arith) refl cs all
   where
-    go : (best : ℕ × State) → best.0 ≤ length xs → best.1 ≡ play M p (take best.0 xs) → (cs : List Checkpoint) → AllByRecursion (PlayedFront M p xs) cs →
+    go : (best : ℕ × State) → best.0 ≤ length xs → best.1 ≡ play M p (take best.0 xs) → (cs : List Checkpoint) → All (PlayedFront M p xs) cs →
         ((fold (λ b c. cond (leb b.0 c.index) (c.index, c.state) b) best cs).0 ≤ length xs) × ((fold (λ b c. cond (leb b.0 c.index) (c.index, c.state) b) best cs).1 ≡ play M p (take (fold (λ b c. cond (leb b.0 c.index) (c.index, c.state) b) best cs).0 xs))
     go best low is [] all = (low, is)
     go best low is (c ∷ cs) all = more (leb best.0 c.index) (λ b l e. go b l e cs all.1)
@@ -87,11 +87,11 @@ module _ (S R : Type 0) (M : Meaning) (N : ℕ) (given : Given) (K : Line) (F : 
   -- K is nowhere above the line
   under : (p : ℕ) → p < N → K p ≤ L p
   under = greatest.highest K
-      (λ p h. subst (AllByRecursion (Backed N K)) (same_front (K p) p (omega (arith, saved_above p h, ready.bounded p))) (ready.family.consistent p h))
+      (λ p h. subst (All (Backed N K)) (same_front (K p) p (omega (arith, saved_above p h, ready.bounded p))) (ready.family.consistent p h))
       (λ p h. (omega (arith, saved_above p h, ready.reach p h), omega (arith, saved_above p h, ready.bounded p)))
 
   line_consistent : Consistent N F L
-  line_consistent p h = subst (AllByRecursion (Backed N L)) (sym (same_front (L p) p (greatest.inside p h).1)) (greatest.consistent p h)
+  line_consistent p h = subst (All (Backed N L)) (sym (same_front (L p) p (greatest.inside p h).1)) (greatest.consistent p h)
 
   empty_row : (p : ℕ) → N ≤ p → w.intervals p ≡ []
   empty_row p h = go (w.intervals p) (ready.fronts p).1
@@ -109,7 +109,7 @@ module _ (S R : Type 0) (M : Meaning) (N : ℕ) (given : Given) (K : Line) (F : 
     named = λ p. All-take (λ x. x.process ≡ p) (L p) (F p) (ready.family.named p);
     indexed = λ p. from_take 0 (L p) (F p) (ready.family.indexed p);
     idle = λ p h. ap (take (L p)) (ready.family.idle p h) ∙ take_all (L p) [] (omega arith);
-    consistent = λ p h. subst (AllByRecursion (Backed N K)) (sym (lasts p h)) (ready.family.consistent p h);
+    consistent = λ p h. subst (All (Backed N K)) (sym (lasts p h)) (ready.family.consistent p h);
     built = λ s r. built_cut (ready.family.built s r) L line_consistent;
   }
 

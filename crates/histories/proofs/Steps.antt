@@ -1,6 +1,6 @@
 -- Calls that do not recover keep what holds.
 use Rattle.std.proofs.Common.{◌≡◌, ℕ, ◌+◌, ◌<◌, ◌≤◌, Bool, true, false, ◌⊎◌, List, [], ◌∷◌, ◌++◌, map, length, take, drop, sym, refl, ap, ◌∙◌, subst, inl, inr, arith}
-use Rattle.std.specs.List.{AllByRecursion}
+use Rattle.std.specs.List.{AllByRecursion as All}
 use Rattle.std.proofs.ByRecursion.{All-take, All-drop}
 use Rattle.std.proofs.lemmas.List.{append_assoc, take-append-le, take-take, take_all, take-map, length_push, length-take, length-map, take-append-drop, length-append}
 use Rattle.std.proofs.lemmas.List.Sums.{fold_push}
@@ -229,8 +229,8 @@ module _ (S R : Type 0) (M : Meaning) (N : ℕ) (K : Line) where
     whole_kept : Kept S M N F K (reading w.store.records)
     whole_kept = kept_whole S M N F K w.store.records w.store.safe h.stored.safe h.stored.remembered
 
-    names : (j : ℕ) → AllByRecursion (λ x. x.process ≡ p) (take j (unsaved w p))
-    names j = All-take _ j (unsaved w p) (All-drop _ (w.saved p) (w.intervals p) (subst (AllByRecursion (λ x. x.process ≡ p)) (sym (h.rows.whole p up)) (h.family.named p)))
+    names : (j : ℕ) → All (λ x. x.process ≡ p) (take j (unsaved w p))
+    names j = All-take _ j (unsaved w p) (All-drop _ (w.saved p) (w.intervals p) (subst (All (λ x. x.process ≡ p)) (sym (h.rows.whole p up)) (h.family.named p)))
 
     -- the saved part of p's row, and some first part of the rest, begin it
     begins : (j : ℕ) → Front ((reading w.store.records).rows p ++ take j (unsaved w p)) (F p)
@@ -247,11 +247,11 @@ module _ (S R : Type 0) (M : Meaning) (N : ℕ) (K : Line) where
 
     -- the row of p once all of it is read
     row_read : (reading_on (reading w.store.records) (map interval_record (unsaved w p))).rows p ≡ w.intervals p
-    row_read = rows_more (reading w.store.records) p (unsaved w p) (subst (AllByRecursion (λ x. x.process ≡ p)) (take_all (length (unsaved w p)) (unsaved w p) (omega arith)) (names (length (unsaved w p))))
+    row_read = rows_more (reading w.store.records) p (unsaved w p) (subst (All (λ x. x.process ≡ p)) (take_all (length (unsaved w p)) (unsaved w p) (omega arith)) (names (length (unsaved w p))))
         ∙ ap (λ xs. xs ++ unsaved w p) (h.read awake p) ∙ take-append-drop (w.saved p) (w.intervals p)
 
     row_others : (r : ℕ) → (r ≡ p → ⊥) → (reading_on (reading w.store.records) (map interval_record (unsaved w p))).rows r ≡ (reading w.store.records).rows r
-    row_others = rows_others (reading w.store.records) p (unsaved w p) (subst (AllByRecursion (λ x. x.process ≡ p)) (take_all (length (unsaved w p)) (unsaved w p) (omega arith)) (names (length (unsaved w p))))
+    row_others = rows_others (reading w.store.records) p (unsaved w p) (subst (All (λ x. x.process ≡ p)) (take_all (length (unsaved w p)) (unsaved w p) (omega arith)) (names (length (unsaved w p))))
 
     pub next_saving : (0 < length (unsaved w p) → store.count w.store + length (unsaved w p) ≤ w.store.capacity) → (xs : List Interval) → xs ≡ unsaved w p → Next S R M N given K F (saving p w xs).1
     next_saving room [] e = next_same h h.family.built

@@ -1,6 +1,6 @@
 -- What a run has recorded, cut back to a consistent line, is again what a run records.
 use Rattle.std.proofs.Common.{◌≡◌, ℕ, zero, suc, ◌<◌, ◌≤◌, ◌⊎◌, List, [], ◌∷◌, ◌++◌, length, take, drop, sym, ap, ◌∙◌, subst, inl, inr, arith}
-use Rattle.std.specs.List.{AllByRecursion}
+use Rattle.std.specs.List.{AllByRecursion as All}
 use Rattle.std.proofs.ByRecursion.{All-take, All-drop}
 use Rattle.std.proofs.lemmas.List.{take-append-le, take_all, take-take, take-append-drop, drop_all, length_push}
 use Rattle.std.proofs.lemmas.Grind.{flat_map-append}
@@ -21,9 +21,9 @@ built_same (input p v built exists g grows) same = input p v built exists g (gro
 built_same (delivery q p m ms built sender exists first grows) same = delivery q p m ms built sender exists first (grows_same grows same)
 
 -- what is at or before k in a list whose rest comes after k stands in its first part
-first_part : (k n : ℕ) (xs ys : List Message) (m : Message) (ms : List Message) → drop n (xs ++ ys) ≡ m ∷ ms → AllByRecursion (λ x. k < x.sent_at) ys → m.sent_at ≤ k → (rest : List Message) × (drop n xs ≡ m ∷ rest)
+first_part : (k n : ℕ) (xs ys : List Message) (m : Message) (ms : List Message) → drop n (xs ++ ys) ≡ m ∷ ms → All (λ x. k < x.sent_at) ys → m.sent_at ≤ k → (rest : List Message) × (drop n xs ≡ m ∷ rest)
 first_part k n [] ys m ms e late early =
-    absurd (let some : AllByRecursion (λ (x : Message). k < x.sent_at) (m ∷ ms) = subst (AllByRecursion (λ x. k < x.sent_at)) e (All-drop (λ x. k < x.sent_at) n ys late) in omega (arith, some.0))
+    absurd (let some : All (λ (x : Message). k < x.sent_at) (m ∷ ms) = subst (All (λ x. k < x.sent_at)) e (All-drop (λ x. k < x.sent_at) n ys late) in omega (arith, some.0))
 first_part k zero (x ∷ xs) ys m ms e late early = (xs, let same : x ≡ m = cc in ap (λ y. y ∷ xs) same)
 first_part k (suc n) (x ∷ xs) ys m ms e late early = first_part k n xs ys m ms e late early
 
@@ -32,20 +32,20 @@ module _ (N : ℕ) (L : Line) {F G : Family} {p : ℕ} {x : Interval} (grows : G
   pub smaller : Consistent N G L → Consistent N F L
   smaller consistent r h = go (cases_eq r p)
     where
-      go : (r ≡ p) ⊎ (r ≡ p → ⊥) → AllByRecursion (Backed N L) (take (L r) (F r))
-      go (inr n) = subst (λ xs. AllByRecursion (Backed N L) (take (L r) xs)) (grows.others r n) (consistent r h)
-      go (inl e) = subst (λ k. AllByRecursion (Backed N L) (take (L k) (F k))) (sym e) (short (cases_lt (length (F p)) (L p)))
+      go : (r ≡ p) ⊎ (r ≡ p → ⊥) → All (Backed N L) (take (L r) (F r))
+      go (inr n) = subst (λ xs. All (Backed N L) (take (L r) xs)) (grows.others r n) (consistent r h)
+      go (inl e) = subst (λ k. All (Backed N L) (take (L k) (F k))) (sym e) (short (cases_lt (length (F p)) (L p)))
         where
-          here : AllByRecursion (Backed N L) (take (L p) (F p ++ (x ∷ [])))
-          here = subst (λ xs. AllByRecursion (Backed N L) (take (L p) xs)) grows.here (subst (λ k. AllByRecursion (Backed N L) (take (L k) (G k))) e (consistent r h))
+          here : All (Backed N L) (take (L p) (F p ++ (x ∷ [])))
+          here = subst (λ xs. All (Backed N L) (take (L p) xs)) grows.here (subst (λ k. All (Backed N L) (take (L k) (G k))) e (consistent r h))
 
-          short : (length (F p) < L p) ⊎ (L p ≤ length (F p)) → AllByRecursion (Backed N L) (take (L p) (F p))
-          short (inr l) = subst (AllByRecursion (Backed N L)) (take-append-le (L p) (F p) (x ∷ []) l) here
+          short : (length (F p) < L p) ⊎ (L p ≤ length (F p)) → All (Backed N L) (take (L p) (F p))
+          short (inr l) = subst (All (Backed N L)) (take-append-le (L p) (F p) (x ∷ []) l) here
           short (inl l) =
               let whole : take (L p) (F p ++ (x ∷ [])) ≡ F p ++ (x ∷ []) = take_all (L p) (F p ++ (x ∷ [])) (simp length_push (omega arith)) in
               let front : take (length (F p)) (F p ++ (x ∷ [])) ≡ F p = take-append-le (length (F p)) (F p) (x ∷ []) (omega arith) ∙ take_all (length (F p)) (F p) (omega arith) in
-              subst (AllByRecursion (Backed N L)) (front ∙ sym (take_all (L p) (F p) (omega arith)))
-              (All-take (Backed N L) (length (F p)) (F p ++ (x ∷ [])) (subst (AllByRecursion (Backed N L)) whole here))
+              subst (All (Backed N L)) (front ∙ sym (take_all (L p) (F p) (omega arith)))
+              (All-take (Backed N L) (length (F p)) (F p ++ (x ∷ [])) (subst (All (Backed N L)) whole here))
 
   -- below the new interval the two are cut alike
   pub cut_before : L p ≤ length (F p) → (r : ℕ) → cut G L r ≡ cut F L r
@@ -68,18 +68,18 @@ module _ (N : ℕ) (L : Line) {F G : Family} {p : ℕ} {x : Interval} (grows : G
   -- the new interval is backed by the line
   pub last_backed : Consistent N G L → p < N → length (F p) < L p → Backed N L x
   last_backed consistent exists l =
-      all_last (F p) (subst (AllByRecursion (Backed N L)) (take_all (L p) (F p ++ (x ∷ [])) (simp length_push (omega arith))) (subst (λ xs. AllByRecursion (Backed N L) (take (L p) xs)) grows.here (consistent p exists)))
+      all_last (F p) (subst (All (Backed N L)) (take_all (L p) (F p ++ (x ∷ [])) (simp length_push (omega arith))) (subst (λ xs. All (Backed N L) (take (L p) xs)) grows.here (consistent p exists)))
     where
-      all_last : (xs : List Interval) → AllByRecursion (Backed N L) (xs ++ (x ∷ [])) → Backed N L x
+      all_last : (xs : List Interval) → All (Backed N L) (xs ++ (x ∷ [])) → Backed N L x
       all_last [] all = all.0
       all_last (y ∷ ys) all = all_last ys all.1
 
 -- behind the first k intervals everything is sent after k
-rest_late : (k t : ℕ) (xs : List Interval) → From 0 xs → AllByRecursion (λ m. k < m.sent_at) (channel t (drop k xs))
+rest_late : (k t : ℕ) (xs : List Interval) → From 0 xs → All (λ m. k < m.sent_at) (channel t (drop k xs))
 rest_late k t xs from = go (cases_lt (length xs) k)
   where
-    go : (length xs < k) ⊎ (k ≤ length xs) → AllByRecursion (λ m. k < m.sent_at) (channel t (drop k xs))
-    go (inl h) = subst (λ ys. AllByRecursion (λ m. k < m.sent_at) (channel t ys)) (sym (drop_all k xs (omega arith))) tt
+    go : (length xs < k) ⊎ (k ≤ length xs) → All (λ m. k < m.sent_at) (channel t (drop k xs))
+    go (inl h) = subst (λ ys. All (λ m. k < m.sent_at) (channel t ys)) (sym (drop_all k xs (omega arith))) tt
     go (inr h) = sent_late k t (drop k xs) (subst (λ n. From n (drop k xs)) (omega arith) (from_drop 0 k xs from h))
 
 -- a message sent at or before the line still waits when the sender is cut to it

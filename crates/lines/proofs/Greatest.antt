@@ -1,6 +1,6 @@
 -- The greatest line is consistent, within the counts and nowhere below such a line; and it is the only one.
 use Rattle.std.proofs.Common.{◌≡◌, ℕ, zero, suc, ◌+◌, ◌<◌, ◌≤◌, min, Bool, true, false, not, ◌||◌, ltb, leb, ◌⊎◌, List, [], ◌∷◌, length, take, sym, refl, ap, ◌∙◌, subst, inl, inr, arith}
-use Rattle.std.specs.List.{prefix_len, AllByRecursion}
+use Rattle.std.specs.List.{prefix_len, AllByRecursion as All}
 use Rattle.std.proofs.ByRecursion.{All-weaker}
 use Rattle.std.proofs.lemmas.List.{length-take, take-take}
 use Rattle.std.proofs.lemmas.List.Sums.{prefix_len-le-length}
@@ -21,18 +21,18 @@ true_backed N L x h = go (cases_lt x.source N)
     go (inr a) = grind (arith, nat_tests)
 
 -- a front that passes is no longer than the longest
-leading_front : {X : Type 0} (test : X → Bool) (n : ℕ) (xs : List X) → n ≤ length xs → AllByRecursion (λ x. test x ≡ true) (take n xs) → n ≤ prefix_len test xs
+leading_front : {X : Type 0} (test : X → Bool) (n : ℕ) (xs : List X) → n ≤ length xs → All (λ x. test x ≡ true) (take n xs) → n ≤ prefix_len test xs
 leading_front test zero xs h all = omega arith
 leading_front test (suc n) [] h all = absurd (omega arith)
 leading_front test (suc n) (x ∷ xs) h all = rw all.0 (let more : n ≤ prefix_len test xs = leading_front test n xs (omega arith) all.1 in omega arith)
 
 -- and the longest passes
-front_passes : {X : Type 0} (test : X → Bool) (n : ℕ) (xs : List X) → n ≤ prefix_len test xs → AllByRecursion (λ x. test x ≡ true) (take n xs)
+front_passes : {X : Type 0} (test : X → Bool) (n : ℕ) (xs : List X) → n ≤ prefix_len test xs → All (λ x. test x ≡ true) (take n xs)
 front_passes test zero xs h = tt
 front_passes test (suc n) [] h = tt
 front_passes test (suc n) (x ∷ xs) h = go (λ k. front_passes test n xs k) (cases_Bool (test x))
   where
-    go : (n ≤ prefix_len test xs → AllByRecursion (λ y. test y ≡ true) (take n xs)) → (test x ≡ true) ⊎ (test x ≡ false) → AllByRecursion (λ y. test y ≡ true) (take (suc n) (x ∷ xs))
+    go : (n ≤ prefix_len test xs → All (λ y. test y ≡ true) (take n xs)) → (test x ≡ true) ⊎ (test x ≡ false) → All (λ y. test y ≡ true) (take (suc n) (x ∷ xs))
     go more (inl e) = (e, more (let k : suc n ≤ 1 + prefix_len test xs = rw e at h in omega arith))
     go more (inr e) = absurd (let k : suc n ≤ 0 = rw e at h in omega arith)
 
@@ -61,7 +61,7 @@ module _ (N : ℕ) (F : Family) where
   lowered_keeps K L consistent rows below p h =
       leading_front (backed N L) (K p) (take (L p) (F p))
       (let a = rows p h in let b = below p h in simp length-take (omega arith))
-      (subst (AllByRecursion (λ x. backed N L x ≡ true)) (sym (take-take (K p) (L p) (F p) (below p h)))
+      (subst (All (λ x. backed N L x ≡ true)) (sym (take-take (K p) (L p) (F p) (below p h)))
       (All-weaker (Backed N K) (λ x. backed N L x ≡ true) (λ x b. true_backed N L x (λ s. let c = b s in let d = below x.source s in omega arith)) (take (K p) (F p)) (consistent p h)))
 
   -- no process can be lowered
@@ -112,7 +112,7 @@ module _ (N : ℕ) (F : Family) where
   fixed_consistent : (L : Line) → Fixed L → Consistent N F L
   fixed_consistent L fixed p h =
       All-weaker (λ x. backed N L x ≡ true) (Backed N L) (λ x e. backed_true N L x e) (take (L p) (F p))
-      (subst (AllByRecursion (λ x. backed N L x ≡ true)) (take-take (L p) (L p) (F p) (omega arith))
+      (subst (All (λ x. backed N L x ≡ true)) (take-take (L p) (L p) (F p) (omega arith))
       (front_passes (backed N L) (L p) (take (L p) (F p)) (omega (arith, fixed p h))))
 
   clipped_is : (c : Line) (p : ℕ) → p < N → clipped N F c p ≡ min (c p) (length (F p))

@@ -1,6 +1,6 @@
 -- In what a run records, a line within the rows is consistent exactly if it covers its vectors.
 use Rattle.std.proofs.Common.{◌≡◌, ℕ, zero, suc, ◌+◌, ◌<◌, ◌≤◌, max, ◌⊎◌, List, [], ◌∷◌, ◌++◌, length, get_or, take, set, fold, sym, refl, ap, ◌∙◌, subst, inl, inr, arith}
-use Rattle.std.specs.List.{AllByRecursion}
+use Rattle.std.specs.List.{AllByRecursion as All}
 use Rattle.std.proofs.lemmas.List.FromFn.{get_or-map-range_with_len, length-map-range_with_len}
 use Rattle.std.proofs.ByRecursion.{All-push, All-take, All-drop}
 use Rattle.std.proofs.lemmas.List.{get_or-set_same, get_or-set_other, length-set, get_or-replicate, take_all, length_push}
@@ -61,7 +61,7 @@ own_take v p n (suc k) (x ∷ xs) e h l = own_take x.vector p (n + 1) k xs h.0 h
 record Vectored (N p : ℕ) (xs : List Interval) : Type 0 where
   rises : Rises no_vector xs
   own : Own p 0 xs
-  heard : AllByRecursion (λ x. x.source < N → x.sent_at ≤ entry x.vector x.source) xs
+  heard : All (λ x. x.source < N → x.sent_at ≤ entry x.vector x.source) xs
   long : length (vector_after xs) ≡ 8
 
 no_entry : (r : ℕ) → r < 8 → entry no_vector r ≡ 0
@@ -102,14 +102,14 @@ vectored {M} {N} (delivery {F} q p m ms built sender exists first grows) few =
     grows_each (Vectored N) grows (vectored built few)
     (push (vectored built few p) (vectored built few q) (All-drop (λ y. y.sent_at ≤ 0 + length (F q)) (taken q (F p)) (channel p (F q)) (sent_early 0 p (F q) (indexed built q))))
   where
-    push : Vectored N p (F p) → Vectored N q (F q) → AllByRecursion (λ (y : Message). y.sent_at ≤ 0 + length (F q)) (waiting F q p) → Vectored N p (F p ++ (by_delivery M N (play M p (F p)) F q p m ∷ []))
+    push : Vectored N p (F p) → Vectored N q (F q) → All (λ (y : Message). y.sent_at ≤ 0 + length (F q)) (waiting F q p) → Vectored N p (F p ++ (by_delivery M N (play M p (F p)) F q p m ∷ []))
     push own other all =
         vectored_push p (F p) (by_delivery M N (play M p (F p)) F q p m) (merged (vector_after (F p)) (vector_after (take m.sent_at (F q)))) (omega arith) own refl (length_merged (vector_after (F p)) (vector_after (take m.sent_at (F q))))
         (λ r k. omega (arith, merged_entry (vector_after (F p)) (vector_after (take m.sent_at (F q))) r k))
         (λ k. go (cases_eq q p))
       where
         early : m.sent_at ≤ length (F q)
-        early = let some : AllByRecursion (λ (y : Message). y.sent_at ≤ 0 + length (F q)) (m ∷ ms) = subst (AllByRecursion (λ y. y.sent_at ≤ 0 + length (F q))) first all in omega (arith, some.0)
+        early = let some : All (λ (y : Message). y.sent_at ≤ 0 + length (F q)) (m ∷ ms) = subst (All (λ y. y.sent_at ≤ 0 + length (F q))) first all in omega (arith, some.0)
 
         go : (q ≡ p) ⊎ (q ≡ p → ⊥) → m.sent_at ≤ entry (set (merged (vector_after (F p)) (vector_after (take m.sent_at (F q)))) p (length (F p) + 1)) q
         go (inl e) =
@@ -165,12 +165,12 @@ module _ {N : ℕ} (few : N ≤ 8) (L : Line) where
         before q r sender k,
       )))
 
-all_both : {X : Type 0} (P Q R : X → Type 0) → ((x : X) → P x → Q x → R x) → (xs : List X) → AllByRecursion P xs → AllByRecursion Q xs → AllByRecursion R xs
+all_both : {X : Type 0} (P Q R : X → Type 0) → ((x : X) → P x → Q x → R x) → (xs : List X) → All P xs → All Q xs → All R xs
 all_both P Q R f [] a b = tt
 all_both P Q R f (x ∷ xs) a b = (f x a.0 b.0, all_both P Q R f xs a.1 b.1)
 
 -- each vector is at most the last
-below_last : (v : List ℕ) (xs : List Interval) → Rises v xs → AllByRecursion (λ x. (r : ℕ) → r < 8 → entry x.vector r ≤ entry (after v xs) r) xs
+below_last : (v : List ℕ) (xs : List Interval) → Rises v xs → All (λ x. (r : ℕ) → r < 8 → entry x.vector r ≤ entry (after v xs) r) xs
 below_last v [] h = tt
 below_last v (x ∷ xs) h = (rises_from x.vector xs h.1, below_last x.vector xs h.1)
 
