@@ -1,5 +1,6 @@
 // Plays a day from standard input, a stock delivery or an order to a line, and prints what was done.
 #![tactic(auto)]
+
 use days::entry::read_entry;
 use days::shop::Shop;
 

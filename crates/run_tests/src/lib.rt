@@ -1,5 +1,6 @@
 // Tests of programs, runs and days on worked examples.
 #![tactic(auto)]
+
 #[cfg(test)]
 mod days;
 #[cfg(test)]
