@@ -1,5 +1,6 @@
 // Edge cases of the rules, proved of the definitions and met by the code.
 #![tactic(auto)]
+
 ghost use Rattle.std.specs.Prelude.{◌≡◌, Some, None};
 ghost use Rattle.programs.specs.Program.{to};
 ghost use Rattle.programs.specs.declared.values.Sends.TheVariants.{Nothing, One};
