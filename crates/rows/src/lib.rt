@@ -1,4 +1,5 @@
 #![tactic(auto)]
+
 mod output;
 pub mod part;
 pub mod row;

@@ -1,4 +1,5 @@
 #![tactic(auto)]
+
 pub mod channel;
 pub mod line;
 pub mod table;

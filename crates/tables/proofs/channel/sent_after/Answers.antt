@@ -17,8 +17,8 @@ pub loop-x-preserved : goal.loop-x-preserved
 loop-x-preserved c =
     let xs = c.args.xs.now in let i = c.loop-x.x-index in let left = c.loop-x.left in let t = c.args.target in let x = get_or xs i blank in
     let r = c.addressed-sends.result in let same = c.addressed-sends.ensures in
-    let long : length (sent_in t x) ≡ c.count-of-left.result = length_sent_in t x r same ∙ sym c.count-of-left.ensures in
-    sym (search_on (sent_in t) xs i left blank c.count-of-left.result c.loop-x-test.true long (omega (arith, c.count-of-left.ensures, c.pick.ensures.none c.in_default.is))) ∙ c.loop-x.invariant
+    let long : length (sent_in t x) ≡ c.count_of-left.result = length_sent_in t x r same ∙ sym c.count_of-left.ensures in
+    sym (search_on (sent_in t) xs i left blank c.count_of-left.result c.loop-x-test.true long (omega (arith, c.count_of-left.ensures, c.pick.ensures.none c.in_default.is))) ∙ c.loop-x.invariant
 
 pub returns : goal.returns
 returns c = sym (nth_drop c.args.skip (channel c.args.target c.args.xs.now) ∙ sym c.loop-x.invariant ∙ search_none (sent_in c.args.target) c.args.xs.now c.loop-x.x-index c.loop-x.left c.loop-x-test.false)

@@ -8,10 +8,10 @@ use Rattle.tables.specs.Answers.{line_of}
 use Rattle.tables.proofs.Lowered.{front_stops, front_whole, backed_above}
 use Rattle.tables.proofs.line.front.Goals as goal
 
-pub returns-then-not-is-backed : goal.returns-then-not-is-backed
-returns-then-not-is-backed c = record {
+pub returns-then-not-is_backed : goal.returns-then-not-is_backed
+returns-then-not-is_backed c = record {
   longest = front_stops c.args.count (line_of c.args.line.now) c.args.xs.now c.loop-i.i _ c.loop-i-test.true c.loop-i.invariant.0
-      (λ b. both_ways c.is-backed.result c.if-not-is-backed.true (c.is-backed.ensures.1 b));
+      (λ b. both_ways c.is_backed.result c.if-not-is_backed.true (c.is_backed.ensures.1 b));
   needs = c.loop-i.invariant.1;
 }
 
@@ -19,7 +19,7 @@ pub loop-i-preserved : goal.loop-i-preserved
 loop-i-preserved c =
     let n = c.args.count in let xs = c.args.xs.now in let i = c.loop-i.i in let here = c.loop-i-test.true in
     let before = line_of c.loop-i.needs in let after = line_of c.raise.new.needs in (
-      All-more (Backed n (line_of c.args.line.now)) xs i _ here c.loop-i.invariant.0 (c.is-backed.ensures.0 c.if-not-is-backed.false),
+      All-more (Backed n (line_of c.args.line.now)) xs i _ here c.loop-i.invariant.0 (c.is_backed.ensures.0 c.if-not-is_backed.false),
       All-more (Backed n after) xs i _ here (All-weaker (Backed n before) (Backed n after) (λ x. backed_above n before after x (λ q _. c.raise.ensures.above q)) (take i xs) c.loop-i.invariant.1)
           (c.raise.ensures.backed n c.requires.eight),
     )
