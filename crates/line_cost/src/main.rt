@@ -1,5 +1,6 @@
 // Finds the greatest line of eight full rows as often as is asked; bench/lines.sh counts the instructions of it.
 #![tactic(auto)]
+
 use anyhow::Context;
 use programs::values::State;
 use records::Interval;

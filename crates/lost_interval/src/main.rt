@@ -1,5 +1,6 @@
 // Shows a lost interval and the line that recovery takes: an order goes through the three processes, and then stock crashes.
 #![tactic(auto)]
+
 use programs::orders::{DISPATCH, INTAKE, Order, Orders, STOCK};
 use programs::program::Program;
 use programs::values::OUTSIDE;

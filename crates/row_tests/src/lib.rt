@@ -1,5 +1,6 @@
 // Tests of rows, tables, searches and lines on worked examples.
 #![tactic(auto)]
+
 #[cfg(test)]
 mod building;
 #[cfg(test)]
