@@ -1,5 +1,6 @@
 // Frames and the byte store, on examples.
 #![tactic(auto)]
+
 #[cfg(test)]
 mod bytes;
 #[cfg(test)]

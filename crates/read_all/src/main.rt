@@ -1,5 +1,6 @@
 // Fills a byte store and, if told to, reads it record by record: for counting instructions.
 #![tactic(auto)]
+
 use anyhow::Context;
 use byte_store::ByteStore;
 use frames::write::LARGEST;

@@ -1,5 +1,6 @@
 // Shows what a loss of power at a sync leaves of a store's records.
 #![tactic(auto)]
+
 mod drill;
 mod samples;
 
@@ -12,7 +13,7 @@ use stores::fault::Fault;
 use stores::slots::SlotStore;
 use stores::store::{Store, free_slots, lasting_count};
 
-#[derive(Drop)]
+#[derive(Debug, Drop)]
 enum Stop {
     Printing(io::Error),
     Refused(Fault),

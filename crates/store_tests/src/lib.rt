@@ -1,5 +1,6 @@
 // What every store does, on examples; then what each store does with the memory that it is lent.
 #![tactic(auto)]
+
 #[cfg(test)]
 mod tests {
     use byte_store::ByteStore;
