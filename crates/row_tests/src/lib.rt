@@ -4,7 +4,7 @@
 #[cfg(test)]
 mod building;
 #[cfg(test)]
-mod lines;
+mod greatest_lines;
 #[cfg(test)]
 mod rows_alone;
 #[cfg(test)]

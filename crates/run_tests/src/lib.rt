@@ -2,8 +2,8 @@
 #![tactic(auto)]
 
 #[cfg(test)]
-mod days;
-#[cfg(test)]
 mod programs_alone;
 #[cfg(test)]
 mod runs_alone;
+#[cfg(test)]
+mod whole_days;
