@@ -1,11 +1,12 @@
 #!/bin/sh
 # Instructions of writing a byte store full and of reading it record by record, counted by callgrind:
-# run by hand, after `rt check read_all`.
+# run by hand; it builds the program first.
 set -eu
 cd "$(dirname "$0")/.."
+(cd crates/read_all && rt run >/dev/null 2>&1)
 
 instructions() {
-    valgrind --tool=callgrind --callgrind-out-file=/dev/null target/bin/read_all "$1" "$2" 2>&1 >/dev/null |
+    valgrind --tool=callgrind --callgrind-out-file=/dev/null crates/read_all/out/read_all "$1" "$2" 2>&1 >/dev/null |
         sed -n 's/.*Collected : *//p'
 }
 
