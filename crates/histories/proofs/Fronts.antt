@@ -37,6 +37,10 @@ module _ {X : Type 0} where
       let is : xs ≡ take (length xs) (take n ys) = front_is xs ys f ∙ sym (take-take (length xs) n ys h) in
       (drop (length xs) (take n ys), sym (take-append-drop (length xs) (take n ys)) ∙ ap (λ l. l ++ drop (length xs) (take n ys)) (sym is))
 
+  -- fronts of one list, each within the other's reach, are taken alike
+  pub taken_front : (n m : ℕ) (xs : List X) → n ≤ m → Front (take n xs) (take m xs)
+  taken_front n m xs h = (drop n (take m xs), sym (take-append-drop n (take m xs)) ∙ ap (λ l. l ++ drop n (take m xs)) (take-take n m xs h))
+
   pub take_past : (k : ℕ) (xs ys : List X) → length xs ≤ k → take k (xs ++ ys) ≡ xs ++ take (k - length xs) ys
   take_past k [] ys h = ap (λ n. take n ys) (omega arith)
   take_past zero (x ∷ xs) ys h = absurd (omega arith)

@@ -77,6 +77,9 @@ module _ (M : Meaning) (N kept : ℕ) (w : World) (c : Call) where
           ap (λ l. lost (store.count m - length l.records) (writes M N c l) l) g ∙ ap (λ rs. lost (store.count m - length b.store.records) rs (entered b)) is ∙ lost_is M N b ws m j h e s
 
 module _ (M : Meaning) (N kept : ℕ) (w : World) where
+  agree_began : (c : Call) (x y : Interval) (p : ℕ) → ((ns : List ℕ) → after_answer M N kept c (accepted ns) (entered w) ≡ entered (began M p y w).1) → y ≡ x → Agree M N kept w c (began M p x w)
+  agree_began c x y p is e = is (x.index ∷ []) ∙ ap (λ z. entered (began M p z w).1) e
+
   agree_taking : (q p : ℕ) → w.state p ≡ play M p (w.intervals p) → (ms : List Message) → waiting w.intervals q p ≡ ms → Agree M N kept w (calls.deliver q p) (taking M N q p w ms)
   agree_taking q p state [] e = ap (λ l. taken_first M N q p l (entered w)) e
   agree_taking q p state (m ∷ ms) e = ap (λ l. taken_first M N q p l (entered w)) e ∙ ap (λ s. entered (began M p (by_delivery M N s w.intervals q p m) w).1) (sym state)
