@@ -1,5 +1,6 @@
 // Why a host refuses a call, and the tests of each call in their order.
 #![tactic(auto)]
+
 pub mod calls;
 pub mod lines;
 pub mod reading;

@@ -1,4 +1,4 @@
-use Rattle.std.proofs.Common.{◌<◌, ◌≤◌, sym, arith}
+use Rattle.std.proofs.Common.{sym, arith}
 use Rattle.tables.specs.Answers.{line_of}
 use Rattle.tables.specs.Tables.{processes, row_of}
 use Rattle.checks.proofs.Each.{above_at, none_above}
