@@ -2,7 +2,7 @@
 #![tactic(auto)]
 
 pub mod calls;
-pub mod lines;
+pub mod host_lines;
 pub mod reading;
 pub mod refusal;
 mod single;

@@ -1,7 +1,7 @@
 use Rattle.std.proofs.Common.{sym, ◌∙◌, arith}
 use Rattle.tables.specs.Tables.{processes, row_of}
 use Rattle.checks.proofs.Each.{one_down, every_up}
-use Rattle.checks.proofs.lines.are_all_up.Goals as goal
+use Rattle.checks.proofs.host_lines.are_all_up.Goals as goal
 
 pub returns-then-not-is_up : goal.returns-then-not-is_up
 returns-then-not-is_up c =
