@@ -1,5 +1,5 @@
 -- A test on each process, by the first that it holds of.
-use Rattle.std.proofs.Common.{◌≡◌, ℕ, zero, suc, ◌<◌, ◌≤◌, Bool, true, false, ◌&&◌, ◌||◌, ltb, ◌⊎◌, sym, refl, ap, ◌∙◌, subst, inl, inr, arith}
+use Rattle.std.proofs.Common.{◌≡◌, ℕ, zero, suc, ◌<◌, ◌≤◌, Bool, true, false, ltb, ◌⊎◌, refl, subst, inl, inr, arith}
 use Rattle.std.proofs.lemmas.Bool.{cases_lt, or_left, or_right, or_from, and_from, and_left, and_right, lt-ltb, le-ltb}
 use Rattle.lines.specs.Lines.{Line}
 use Rattle.histories.specs.Tests.{some_above, all_up}

@@ -1,5 +1,5 @@
 -- What a list of tests makes of a call, by the first that holds or by none.
-use Rattle.std.proofs.Common.{◌≡◌, Bool, true, false, ◌⊎◌, List, [], ◌∷◌, sym, refl, ap, ◌∙◌, subst, inl, inr}
+use Rattle.std.proofs.Common.{◌≡◌, false, List, [], ◌∷◌, refl, ap, ◌∙◌, inl, inr}
 use Rattle.std.specs.List.{AllByRecursion}
 use Rattle.histories.specs.Calls as calls
 use Rattle.histories.specs.Calls.{refused}

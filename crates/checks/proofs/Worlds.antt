@@ -1,12 +1,10 @@
 -- One row changed, as the world of a host.
-use Rattle.std.proofs.Common.{◌≡◌, ℕ, Bool, true, false, cond, eqb, ◌⊎◌, sym, refl, ap, ◌∙◌, subst, inl, inr}
+use Rattle.std.proofs.Common.{◌≡◌, ℕ, eqb, ◌⊎◌, sym, ap, ◌∙◌, inl, inr}
 use Rattle.std.proofs.lemmas.Bool.{cases_eq, cond-true, cond-false, eq-eqb, ne_eqb}
-use Rattle.stores.specs.Meaning as store
 use Rattle.rows.specs.Rows.{Held}
 use Rattle.tables.specs.Tables.{Changed, row_of}
 use Rattle.tables.specs.declared.table.Table.{Table}
-use Rattle.histories.specs.World.{World, at}
-use Rattle.checks.specs.Worlds.{world_of}
+use Rattle.histories.specs.World.{at}
 
 module _ {t u : Table} {p : ℕ} {h : Held} (changed : Changed p h t u) where
   -- what is read off a row is changed at p alone

@@ -1,5 +1,5 @@
 -- What a check of a call answers: the first of its tests that holds, or that none does.
-use Rattle.std.specs.Prelude.{◌≡◌, ℕ, true, false, ◌⊎◌, List, [], ◌∷◌, Ok, Err, Result}
+use Rattle.std.specs.Prelude.{◌≡◌, true, false, ◌⊎◌, List, [], ◌∷◌, Ok, Err, Result}
 use Rattle.std.specs.List.{AllByRecursion}
 use Rattle.histories.specs.Calls as calls
 use Rattle.histories.specs.Tests.{Test}

@@ -12,7 +12,7 @@ ghost use Rattle.checks.specs.Checks.{Checked};
 ghost use Rattle.checks.specs.Deliveries.{Next};
 ghost use Rattle.checks.specs.Worlds.{world_of, committed_outputs};
 
-use crate::lines::{are_all_up, committed_line};
+use crate::host_lines::{are_all_up, committed_line};
 use crate::reading::{output, unsaved};
 use crate::refusal::Refusal;
 use crate::single::{awake, existing, first_waiting, limited, numbered, standing, unfilled};

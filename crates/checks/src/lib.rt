@@ -1,7 +1,8 @@
 // Why a host refuses a call, and the tests of each call in their order.
 #![tactic(auto)]
+
 pub mod calls;
-pub mod lines;
+pub mod host_lines;
 pub mod reading;
 pub mod refusal;
 mod single;

@@ -1,5 +1,6 @@
 // What a host writes to its store: records appended in order, and then one sync.
 #![tactic(auto)]
+
 ghost use Rattle.std.specs.Prelude.{◌≡◌, [], ◌∷◌, ◌++◌, map, length, drop};
 ghost use Rattle.stores.specs.Faults.{answer};
 ghost use Rattle.tables.specs.Tables.{row_of};

@@ -1,8 +1,8 @@
-use Rattle.std.proofs.Common.{◌<◌, ◌≤◌, sym, arith}
+use Rattle.std.proofs.Common.{sym, arith}
 use Rattle.tables.specs.Answers.{line_of}
 use Rattle.tables.specs.Tables.{processes, row_of}
 use Rattle.checks.proofs.Each.{above_at, none_above}
-use Rattle.checks.proofs.lines.any_above.Goals as goal
+use Rattle.checks.proofs.host_lines.any_above.Goals as goal
 
 pub returns-then-line-p : goal.returns-then-line-p
 returns-then-line-p c =
