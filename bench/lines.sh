@@ -4,7 +4,7 @@
 # domino: each lost interval costs another process one, 768 in all, in the order that takes the most rounds.
 set -euo pipefail
 cd "$(dirname "${BASH_SOURCE[0]}")/.."
-(cd crates/line_cost && rt run >/dev/null 2>&1)
+(cd crates/line_cost && rt run -- whole 1 >/dev/null 2>&1)
 count() {
   valgrind --tool=callgrind --callgrind-out-file=/dev/null crates/line_cost/out/line_cost "$1" "$2" 2>&1 >/dev/null | sed -n "s/.*Collected : \([0-9]*\).*/\1/p"
 }

@@ -3,7 +3,7 @@
 # run by hand; it builds the program first.
 set -eu
 cd "$(dirname "$0")/.."
-(cd crates/read_all && rt run >/dev/null 2>&1)
+(cd crates/read_all && rt run -- 8 read >/dev/null 2>&1)
 
 instructions() {
     valgrind --tool=callgrind --callgrind-out-file=/dev/null crates/read_all/out/read_all "$1" "$2" 2>&1 >/dev/null |
