@@ -1,6 +1,6 @@
 -- The checkpoints that stand, with and without the numbers of their records.
 use Rattle.std.proofs.Common.{◌≡◌, ℕ, ◌+◌, ◌<◌, ◌≤◌, Bool, true, false, cond, eqb, leb, ◌⊎◌, List, [], ◌∷◌, ◌++◌, map, length, get_or, take, Some, None, fold, filter, Option, sym, refl, ap, ◌∙◌, subst, inl, inr, arith}
-use lib.Dec.{leb-zero}
+use Rattle.std.proofs.Math.Dec.{leb-zero}
 use Rattle.std.specs.List.{slice_get}
 use Rattle.std.proofs.lemmas.List.{length-take, map_push}
 use Rattle.std.proofs.lemmas.Option.{slice_get_past as nth_past}
