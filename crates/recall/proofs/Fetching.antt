@@ -8,7 +8,7 @@ use Rattle.records.specs.declared.Content.TheVariants as content
 use Rattle.records.specs.declared.Record.{Record}
 use Rattle.stores.specs.Calls.{fetched}
 use Rattle.stores.specs.Meaning.{Meaning, count}
-use Rattle.histories.specs.Reading.{readable}
+use Rattle.recall.specs.Loaded.{readable}
 
 -- what a read that was not refused found
 pub read_some : (m : Meaning) (i : ℕ) (place after : Record) → ◌≡◌ {A = Result (Unit {0}) ℕ × Record} (Ok tt, after) (fetched (i + 1) m place) → slice_get (readable m) i ≡ Some after

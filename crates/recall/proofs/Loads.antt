@@ -15,8 +15,8 @@ use Rattle.rows.specs.declared.row.Row.{Row}
 use Rattle.tables.specs.Tables.{Changed, processes, row_of, idle}
 use Rattle.tables.specs.declared.table.Table.{Table}
 use Rattle.tables.proofs.Families.{row_at, row_changed}
-use Rattle.histories.specs.Reading.{Image, noted, reading, readable}
-use Rattle.recall.specs.Loaded.{Changes, Loaded, emptied, noted_row, recalled, saved_row}
+use Rattle.histories.specs.Reading.{Image, noted, reading}
+use Rattle.recall.specs.Loaded.{readable, Changes, Loaded, emptied, noted_row, recalled, saved_row}
 use Rattle.recall.proofs.Changing.{with_row}
 use Rattle.recall.proofs.Fetching.{taken_more, taken_same}
 

@@ -1,6 +1,6 @@
 -- The checkpoints that stand, with and without the numbers of their records.
 use Rattle.std.proofs.Common.{◌≡◌, ℕ, ◌+◌, ◌<◌, ◌≤◌, Bool, true, false, cond, eqb, leb, ◌⊎◌, List, [], ◌∷◌, ◌++◌, map, length, get_or, take, Some, None, fold, filter, Option, sym, refl, ap, ◌∙◌, subst, inl, inr, arith}
-use lib.Dec.{leb-zero}
+use Rattle.std.proofs.Math.Dec.{leb-zero}
 use Rattle.std.specs.List.{slice_get}
 use Rattle.std.proofs.lemmas.List.{length-take, map_push}
 use Rattle.std.proofs.lemmas.Option.{slice_get_past as nth_past}
@@ -12,8 +12,8 @@ use Rattle.records.specs.declared.Checkpoint.{Checkpoint}
 use Rattle.records.specs.declared.Content.{Content}
 use Rattle.records.specs.declared.Content.TheVariants as content
 use Rattle.records.specs.declared.Record.{Record}
-use Rattle.histories.specs.Reading.{Image, noted, reading, origin}
-use Rattle.recall.specs.Standing.{Holds, numbered, marked, marked_next, standing, higher, highest, begins}
+use Rattle.histories.specs.Reading.{Image, noted, reading}
+use Rattle.recall.specs.Standing.{Holds, numbered, marked, marked_next, standing, higher, highest, origin_within, begins}
 use Rattle.recall.specs.declared.checkpoint.Found.{Found}
 use Rattle.recall.proofs.Fetching.{taken_more, taken_same}
 
@@ -93,8 +93,8 @@ module _ (M : Meaning) (p : ℕ) where
   picks_all o [] = refl
   picks_all o (f ∷ fs) = ap (λ b. fold pick b (map (checkpoint_of p) fs)) (picks o f) ∙ picks_all (higher o f) fs
 
-  pub origin_is : (entry : ℕ) (rs : List Record) → origin M p entry ((reading rs).checkpoints p) ≡ begins M p (highest entry (standing p rs))
+  pub origin_is : (entry : ℕ) (rs : List Record) → origin_within M p entry ((reading rs).checkpoints p) ≡ begins M p (highest entry (standing p rs))
   origin_is entry rs =
-      ap (origin M p entry) (sym (stands_as p rs))
+      ap (origin_within M p entry) (sym (stands_as p rs))
       ∙ ap (fold pick (0, M.start p)) (sym (kept_map (checkpoint_of p) (λ c. leb c.index entry) (standing p rs)))
       ∙ picks_all None (filter (λ f. leb f.index entry) (standing p rs))

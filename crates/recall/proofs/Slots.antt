@@ -53,15 +53,12 @@ holds_kept cs slots left e is holds k h = is k ∙ go (cases_lt e k)
     go (inl l) = cond-false (leb k e) (get_or slots k None) None (lt-leb k e l) ∙ sym (above_go k e l None cs)
     go (inr l) = cond-true (leb k e) (get_or slots k None) None (le-leb k e l) ∙ holds k h ∙ sym (below_stay k e l None cs)
 
--- a checkpoint of the process, and one of another
+-- a checkpoint of the process, put into its slot
 module _ (p n : ℕ) (c : Checkpoint) (slots : List (Option Found)) where
   pub holds_own : length slots ≡ 256 → c.index < 256 → p ≡ c.process → (cs : List Found) → Holds cs slots → Holds (marked p n cs (content.Checkpoint c)) (set slots c.index (Some (numbered n c)))
   holds_own long small own cs holds =
       subst (λ fs. Holds fs (set slots c.index (Some (numbered n c)))) (sym (cond-true (eqb p c.process) (cs ++ (numbered n c ∷ [])) cs (eq-eqb p c.process own)))
       (holds_push cs slots (numbered n c) long small holds)
-
-  pub holds_other : (p ≡ c.process → ⊥) → (cs : List Found) → Holds cs slots → Holds (marked p n cs (content.Checkpoint c)) slots
-  holds_other other cs holds = subst (λ fs. Holds fs slots) (sym (cond-false (eqb p c.process) (cs ++ (numbered n c ∷ [])) cs (ne_eqb p c.process other))) holds
 
 -- the slots above e and below i are emptied
 pub record Dropped (e i : ℕ) (slots left : List (Option Found)) : Type 0 where

@@ -10,7 +10,11 @@ use Rattle.lines.specs.Intervals.{Family}
 use Rattle.rows.specs.Rows.{Held, pushed, cut_to}
 use Rattle.tables.specs.Tables.{processes, row_of}
 use Rattle.tables.specs.declared.table.Table.{Table}
-use Rattle.histories.specs.Reading.{reading, readable}
+use Rattle.histories.specs.Reading.{reading}
+
+-- what can be read of a store: its records, and none while it is dead
+abbrev pub readable : store.Meaning → List Record
+readable m = cond m.alive m.records []
 
 -- the row of each process is changed, and nothing else
 pub record Changes (change : ℕ → Held → Held) (t u : Table) : Type 0 where

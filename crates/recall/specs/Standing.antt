@@ -1,11 +1,12 @@
 -- The checkpoints of a process that stand, and the one that its replay begins at.
-use Rattle.std.specs.Prelude.{◌≡◌, ℕ, ◌+◌, ◌<◌, cond, leb, List, [], ◌∷◌, ◌++◌, Some, None, fold, filter, Option, ◌==◌, nat_le, slice_index, slice_index_or}
+use Rattle.std.specs.Prelude.{◌≡◌, ℕ, ◌+◌, ◌<◌, cond, List, [], ◌∷◌, ◌++◌, Some, None, fold, filter, Option, ◌==◌, nat_le, slice_index, slice_index_or}
 use Rattle.programs.specs.Program.{Meaning}
 use Rattle.programs.specs.declared.values.State.{State}
 use Rattle.records.specs.declared.Checkpoint.{Checkpoint}
 use Rattle.records.specs.declared.Content.{Content}
 use Rattle.records.specs.declared.Content.TheVariants as content
 use Rattle.records.specs.declared.Record.{Record}
+use Rattle.histories.specs.Reading.{origin}
 use Rattle.recall.specs.declared.checkpoint.Found.{Found}
 
 -- a checkpoint, read from the record of this number
@@ -16,7 +17,7 @@ numbered n c = record { index = c.index; state = c.state; «record» = n }
 abbrev pub marked : ℕ → ℕ → List Found → Content → List Found
 marked p n cs (content.Interval x) = cs
 marked p n cs (content.Checkpoint c) = cond (p == c.process) (cs ++ (numbered n c ∷ [])) cs
-marked p n cs (content.Line entries) = filter (λ f. leb f.index (slice_index entries p)) cs
+marked p n cs (content.Line entries) = filter (λ f. nat_le f.index (slice_index entries p)) cs
 
 -- how many records there were, and what stands after them
 abbrev pub marked_next : ℕ → ℕ × List Found → Record → ℕ × List Found
@@ -33,7 +34,11 @@ higher (Some best) f = cond (nat_le best.index f.index) (Some f) (Some best)
 
 -- the highest at or below the entry, of equal ones the last
 abbrev pub highest : ℕ → List Found → Option Found
-highest entry cs = fold higher None (filter (λ f. leb f.index entry) cs)
+highest entry cs = fold higher None (filter (λ f. nat_le f.index entry) cs)
+
+-- where a replay of process p up to its line entry begins: its highest checkpoint at or below the entry, of equal ones the last, or its start
+abbrev pub origin_within : Meaning → ℕ → ℕ → List Checkpoint → ℕ × State
+origin_within M p entry cs = origin M p (filter (λ c. nat_le c.index entry) cs)
 
 -- where a replay of process p begins: at the checkpoint, or at the start
 abbrev pub begins : Meaning → ℕ → Option Found → ℕ × State

@@ -1,8 +1,9 @@
 // The search for the checkpoint that the replay of a process begins at.
 ghost use Rattle.std.specs.Prelude.{◌≡◌, ℕ, List, if◌then◌else◌, None, nat_le, slice_index, slice_index_or};
 ghost use Rattle.programs.specs.Program.{Meaning};
-ghost use Rattle.histories.specs.Reading.{reading, readable, origin};
-ghost use Rattle.recall.specs.Standing.{Holds, marked, standing, highest, begins};
+ghost use Rattle.histories.specs.Reading.{reading};
+ghost use Rattle.recall.specs.Loaded.{readable};
+ghost use Rattle.recall.specs.Standing.{Holds, marked, standing, highest, origin_within, begins};
 
 use crate::fetch::record_at;
 use programs::values::State;
@@ -76,7 +77,7 @@ fn highest(slots: &Slots, entry: u8) -> Option<Found>
 // A dead store has none.
 pub fn find_checkpoint<S: Store>(store: &S, process: u8, entry: u8) -> Option<Found>
     ensures value { result ≡ highest entry (standing process (readable (S.Store.means store.now))) }
-    ensures begins { (M : Meaning) → origin M process entry ((reading (readable (S.Store.means store.now))).checkpoints process) ≡ begins M process result }
+    ensures begins { (M : Meaning) → origin_within M process entry ((reading (readable (S.Store.means store.now))).checkpoints process) ≡ begins M process result }
 {
     let mut slots = [None; 256];
     for i in 0..store.count() {

@@ -1,7 +1,7 @@
 // The records of a store, one by one.
 ghost use Rattle.std.specs.Prelude.{◌≡◌, ◌+◌, ◌^◌, ◌<◌};
 ghost use Rattle.std.specs.List.{slice_get};
-ghost use Rattle.histories.specs.Reading.{readable};
+ghost use Rattle.recall.specs.Loaded.{readable};
 
 use records::Record;
 use stores::store::Store;

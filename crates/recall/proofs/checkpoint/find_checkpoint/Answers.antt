@@ -1,11 +1,11 @@
 use Rattle.std.proofs.Common.{◌≡◌, ◌+◌, take, sym, ap, ◌∙◌, subst, arith}
-use Rattle.histories.specs.Reading.{readable}
+use Rattle.recall.specs.Loaded.{readable}
 use Rattle.recall.specs.Standing.{Holds, standing, highest, begins}
 use Rattle.recall.proofs.Fetching.{taken_all}
 use Rattle.recall.proofs.Origins.{marks_some, marks_none, origin_is}
 use Rattle.recall.proofs.Slots.{holds_none}
 use Rattle.recall.proofs.checkpoint.find_checkpoint.Goals as goal
-use Rattle.recall.proofs.checkpoint.find_checkpoint.Goals.{in-Some, in-default}
+use Rattle.recall.proofs.checkpoint.find_checkpoint.Goals.{in-Some, in_default}
 
 pub loop-i-init : goal.loop-i-init
 loop-i-init g c = holds_none
@@ -13,9 +13,9 @@ loop-i-init g c = holds_none
 pub loop-i-preserved : goal.loop-i-preserved
 loop-i-preserved g c =
     let rs = readable (g.S.Store.means c.args.store.now) in let i = c.loop-i.i in let p = c.args.process in
-    elim c.match-record-at.branch [
+    elim c.match-record_at.branch [
       | in-Some w ↦ subst (Holds (standing p (take (i + 1) rs))) (sym w.slots-is) (marks_some p rs i c.loop-i.slots c.loop-i.invariant w.in-Some.found w.mark.new.slots (sym w.in-Some.ensures) w.mark.ensures)
-      | in-default w ↦ subst (Holds (standing p (take (i + 1) rs))) (sym w.slots-is) (marks_none p rs i c.loop-i.slots c.loop-i.invariant (sym w.in-default.ensures))
+      | in_default w ↦ subst (Holds (standing p (take (i + 1) rs))) (sym w.slots-is) (marks_none p rs i c.loop-i.slots c.loop-i.invariant (sym w.in_default.ensures))
     ]
 
 pub returns : goal.returns

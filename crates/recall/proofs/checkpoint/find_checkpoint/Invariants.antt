@@ -1,5 +1,5 @@
 use Rattle.std.proofs.Common.{take}
-use Rattle.histories.specs.Reading.{readable}
+use Rattle.recall.specs.Loaded.{readable}
 use Rattle.recall.specs.Standing.{Holds, standing}
 use Rattle.recall.proofs.checkpoint.find_checkpoint.Given as goal
 

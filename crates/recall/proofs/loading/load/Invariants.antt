@@ -1,5 +1,5 @@
 use Rattle.std.proofs.Common.{take}
-use Rattle.histories.specs.Reading.{readable}
+use Rattle.recall.specs.Loaded.{readable}
 use Rattle.recall.proofs.Loads.{SoFar}
 use Rattle.recall.proofs.loading.load.Given as goal
 
