@@ -1,7 +1,7 @@
 -- The searches by number: what comes at a place of a list that is made of others.
-use Rattle.std.proofs.Common.{◌≡◌, ℕ, zero, suc, ◌+◌, ◌-◌, ◌<◌, ◌≤◌, eqb, List, [], ◌∷◌, ◌++◌, map, length, get_or, take, drop, Some, None, filter, sym, refl, ap, ◌∙◌, arith}
-use Rattle.std.specs.Option.{option_map}
-use Rattle.std.specs.List.{flat_map, slice_get}
+use Rattle.std.proofs.Common.{◌≡◌, ℕ, zero, suc, ◌+◌, ◌-◌, ◌<◌, ◌≤◌, eqb, List, [], ◌∷◌, ◌++◌, map, length, get_or, take, drop, fold, Some, None, Option, filter, sym, refl, ap, ◌∙◌, arith}
+use Rattle.std.specs.Option.{option_map, option_map_or, option_to_list}
+use Rattle.std.specs.List.{cons_option, flat_map, filter_map, slice_get}
 use Rattle.std.proofs.lemmas.List.{take_more, take_all, at_drop_more, at_drop_all, length-map}
 use Rattle.std.proofs.lemmas.List.Sums.{fold_push}
 use Rattle.programs.specs.Values.{listed}
@@ -9,7 +9,8 @@ use Rattle.programs.specs.declared.values.Send.{Send}
 use Rattle.programs.specs.declared.values.Sends.{Sends}
 use Rattle.programs.specs.declared.values.Sends.TheVariants.{Nothing}
 use Rattle.records.specs.declared.Interval.{Interval}
-use Rattle.lines.specs.Intervals.{sent_in, no_vector, vector_after}
+use Rattle.lines.specs.Intervals.{sent_in, outputs, no_vector, vector_after}
+use Rattle.rows.specs.Outputs.{nth_output}
 
 -- any interval, where a read wants one
 abbrev pub blank : Interval
@@ -55,6 +56,19 @@ module _ {X A : Type 0} (f : X → List A) (xs : List X) (i : ℕ) (left : ℕ) 
   pub search_none : length xs ≤ i → slice_get (flat_map f (drop i xs)) left ≡ None
   search_none h = at_drop_all (λ ys. slice_get (flat_map f ys) left) xs i h
 
+pub outputs_filtered : (xs : List Interval) → filter_map (λ (x : Interval). x.output) xs ≡ outputs xs
+outputs_filtered [] = refl
+outputs_filtered (x ∷ xs) = go x.output (outputs_filtered xs)
+  where
+    go : (o : Option ℕ) {ys zs : List ℕ} → ys ≡ zs → cons_option o ys ≡ option_to_list o ++ zs
+    go None e = e
+    go (Some v) e = ap (λ zs. v ∷ zs) e
+
+-- the outputs are counted from 1
+pub nth_filtered : (xs : List Interval) (n : ℕ) → 1 ≤ n → slice_get (filter_map (λ (x : Interval). x.output) xs) (n - 1) ≡ nth_output n xs
+nth_filtered xs zero h = absurd (omega arith)
+nth_filtered xs (suc n) h = let e : suc n - 1 ≡ n = omega arith in ap (slice_get (filter_map (λ (x : Interval). x.output) xs)) e ∙ ap (λ ys. slice_get ys n) (outputs_filtered xs)
+
 -- what an interval sends to t, where r has those sends
 module _ (t : ℕ) (x : Interval) (r : Sends) (same : listed r ≡ filter (λ m. eqb m.target t) (listed x.sends)) where
   pub length_sent_in : length (sent_in t x) ≡ length (listed r)
@@ -66,8 +80,13 @@ module _ (t : ℕ) (x : Interval) (r : Sends) (same : listed r ≡ filter (λ m.
       ∙ ap (λ ms. option_map (λ (m : Send). record { value = m.value; sent_at = x.index }) (slice_get ms n)) (sym same)
       ∙ ap (option_map (λ (m : Send). record { value = m.value; sent_at = x.index })) e
 
-pub vector_last : (xs : List Interval) (d : Interval) → 1 ≤ length xs → (get_or xs (length xs - 1) d).vector ≡ vector_after xs
-vector_last xs d h =
-    let n = length xs - 1 in
-    let whole : take n xs ++ (get_or xs n d ∷ []) ≡ xs = sym (take_more xs n d (omega arith)) ∙ take_all (n + 1) xs (omega arith) in
-    sym (fold_push (λ _ (x : Interval). x.vector) no_vector (take n xs) (get_or xs n d)) ∙ ap vector_after whole
+-- the vector of the last interval, where there is one
+pub vector_last : (xs : List Interval) → option_map_or (λ (x : Interval). x.vector) (slice_get xs (length xs - 1)) no_vector ≡ vector_after xs
+vector_last [] = refl
+vector_last (x ∷ xs) = last x xs no_vector
+  where
+    last : (x : Interval) (xs : List Interval) (v : List ℕ) → option_map_or (λ (x : Interval). x.vector) (slice_get (x ∷ xs) (length (x ∷ xs) - 1)) no_vector ≡ fold (λ _ (x : Interval). x.vector) v (x ∷ xs)
+    last x [] v = refl
+    last x (y ∷ ys) v =
+        let e : length (x ∷ y ∷ ys) - 1 ≡ suc (length (y ∷ ys) - 1) = omega arith in
+        ap (λ n. option_map_or (λ (x : Interval). x.vector) (slice_get (x ∷ y ∷ ys) n) no_vector) e ∙ last y ys x.vector

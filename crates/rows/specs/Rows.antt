@@ -1,7 +1,8 @@
 -- What a row holds, and what each change makes of it.
-use Rattle.std.specs.Prelude.{ℕ, min, Bool, true, false, cond, List, [], ◌∷◌, ◌++◌, length, take, nat_lt}
+use Rattle.std.specs.Prelude.{ℕ, min, Bool, true, false, cond, List, [], ◌∷◌, ◌++◌, length, take, Ok, Err, Result, nat_lt}
 use Rattle.programs.specs.declared.values.State.{State}
 use Rattle.records.specs.declared.Interval.{Interval}
+use Rattle.rows.specs.declared.full.RowFull.{RowFull}
 use Rattle.rows.specs.declared.row.Row.{Row}
 
 -- the intervals that stand
@@ -26,9 +27,9 @@ fresh s = record { intervals = []; saved = 0; up = true; state = s }
 abbrev pub grown : Interval → Held → Held
 grown x h = record { intervals = h.intervals ++ (x ∷ []); saved = h.saved; up = h.up; state = h.state }
 
--- whether there was a place for one more, and what the row then holds
-abbrev pub pushed : Interval → Held → Bool × Held
-pushed x h = cond (nat_lt (length h.intervals) 96) (true, grown x h) (false, h)
+-- refused where 96 stand; and what the row then holds
+abbrev pub pushed : Interval → Held → Result (Unit {0}) RowFull × Held
+pushed x h = cond (nat_lt (length h.intervals) 96) (Ok tt, grown x h) (Err (record {}), h)
 
 -- only the first n stand, and no more than that are saved
 abbrev pub cut_to : ℕ → Held → Held

@@ -1,5 +1,7 @@
+// The row of a process, and what is read off its intervals.
 #![tactic(auto)]
 
+pub mod full;
 mod output;
 pub mod part;
 pub mod row;

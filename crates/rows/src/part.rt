@@ -7,20 +7,12 @@ use records::Interval;
 pub fn first(xs: &[Interval], n: u8) -> &[Interval]
     ensures { result.now ≡ take n xs.now }
 {
-    if (n as usize) < xs.len() {
-        &xs[0..n as usize]
-    } else {
-        xs
-    }
+    xs.get(..n as usize).unwrap_or(xs)
 }
 
 // All but the first `n`.
 pub fn rest(xs: &[Interval], n: u8) -> &[Interval]
     ensures { result.now ≡ drop n xs.now }
 {
-    if (n as usize) < xs.len() {
-        &xs[n as usize..]
-    } else {
-        &[]
-    }
+    xs.get(n as usize..).unwrap_or(&[])
 }

@@ -8,11 +8,5 @@ pub fn count_from(xs: &[Interval], source: u8) -> usize
     ensures value { result ≡ taken source xs.now }
     ensures bound { result ≤ length xs.now }
 {
-    let mut n = 0;
-    for x in xs {
-        if x.source == source {
-            n += 1;
-        }
-    }
-    n
+    xs.iter().filter(|x| x.source == source).count()
 }

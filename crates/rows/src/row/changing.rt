@@ -2,6 +2,7 @@
 ghost use Rattle.std.specs.Prelude.{◌≡◌, ◌<◌, ◌≤◌, length};
 ghost use Rattle.rows.specs.Rows.{standing, held, fresh, grown, pushed, cut_to, crashed, all_saved, resumed, at_state};
 
+use crate::full::RowFull;
 use crate::row::{MOST, Row};
 use programs::values::State;
 use records::Interval;
@@ -20,31 +21,16 @@ impl Row {
         }
     }
 
-    fn put(&mut self, x: Interval)
-        requires { length (standing self.old) < 96 }
-        ensures { held self.new ≡ grown x (held self.old) }
-    {
-        self.intervals[self.count as usize] = x;
-        self.count += 1;
-    }
-
-    // One interval more; false where 96 stand, and then nothing changes.
-    pub fn push(&mut self, x: Interval) -> bool
+    // One interval more; refused where 96 stand, and then nothing changes.
+    pub fn push(&mut self, x: Interval) -> Result<(), RowFull>
         ensures { (result, held self.new) ≡ pushed x (held self.old) }
     {
         if self.count() >= MOST {
-            return false;
+            return Err(RowFull);
         }
-        self.put(x);
-        true
-    }
-
-    // Only the first `n` intervals stand, which the saved ones are among.
-    fn keep(&mut self, n: u8)
-        requires { self.old.saved ≤ n }
-        ensures { held self.new ≡ cut_to n (held self.old) }
-    {
-        self.count = self.count.min(n);
+        self.intervals[self.count as usize] = x;
+        self.count += 1;
+        Ok(())
     }
 
     // Only the first `n` intervals stand, all of them if there are fewer; no more than that are saved.
@@ -52,7 +38,7 @@ impl Row {
         ensures { held self.new ≡ cut_to n (held self.old) }
     {
         self.saved = self.saved.min(n);
-        self.keep(n);
+        self.count = self.count.min(n);
     }
 
     // The process goes down and loses what it has not saved.
