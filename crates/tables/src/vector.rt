@@ -3,27 +3,20 @@ ghost use Rattle.std.specs.Prelude.{◌≡◌, ◌+◌, ◌≤◌, length, slice
 ghost use Rattle.lines.specs.Intervals.{vector_after, merged};
 
 use records::Interval;
+use std::array;
 
 // The vector of the last interval; zeros at the start.
 fn last_vector(xs: &[Interval]) -> [u8; 8]
     ensures { result ≡ vector_after xs.now }
 {
-    if xs.is_empty() {
-        [0; 8]
-    } else {
-        xs[xs.len() - 1].vector
-    }
+    xs.last().map_or([0; 8], |x| x.vector)
 }
 
 // Entry by entry the larger.
 fn merged(v: &[u8; 8], w: &[u8; 8]) -> [u8; 8]
     ensures { result ≡ merged v.now w.now }
 {
-    let mut both = *v;
-    for i in 0..8 {
-        both[i] = v[i].max(w[i]);
-    }
-    both
+    array::from_fn(|i| v[i].max(w[i]))
 }
 
 // The own entry becomes the new index.

@@ -1,11 +1,12 @@
-use Rattle.std.proofs.Common.{sym, ap, rules}
-use Rattle.std.proofs.lemmas.List.{nil_from_length}
-use Rattle.lines.specs.Intervals.{vector_after}
-use Rattle.rows.proofs.Finding.{blank, vector_last}
+use Rattle.std.proofs.Common.{◌≡◌, ℕ, List, Option, ◌∙◌, ap, rules}
+use Rattle.std.specs.Option.{option_copied, option_map_or}
+use Rattle.records.specs.declared.Interval.{Interval}
+use Rattle.lines.specs.Intervals.{no_vector}
+use Rattle.rows.proofs.Finding.{vector_last}
 use Rattle.tables.proofs.vector.last_vector.Goals as goal
 
-pub returns-then-is_empty : goal.returns-then-is_empty
-returns-then-is_empty c = let xs = c.args.xs.now in sym (ap vector_after (nil_from_length xs (search rules)))
-
-pub returns-else-is_empty : goal.returns-else-is_empty
-returns-else-is_empty c = vector_last c.args.xs.now blank (search rules)
+pub returns : goal.returns
+returns c =
+    let of : Option Interval → List ℕ = λ o. option_map_or (λ (x : Interval). x.vector) o no_vector in
+    let found : c.map_or.result ≡ of (option_copied c.last.result) = search rules in
+    found ∙ ap of c.last.ensures.value ∙ vector_last c.args.xs.now

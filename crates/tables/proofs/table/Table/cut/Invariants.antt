@@ -2,7 +2,7 @@ use Rattle.std.proofs.Common.{◌≡◌, ℕ, ◌<◌, ◌≤◌, length}
 use Rattle.tables.specs.Answers.{line_of}
 use Rattle.rows.specs.Rows.{cut_to}
 use Rattle.tables.specs.Tables.{row_of}
-use Rattle.tables.proofs.table.Table.cut_first.Given as goal
+use Rattle.tables.proofs.table.Table.cut.Given as goal
 
 abbrev pub invariant-loop-p : goal.invariant-loop-p
 invariant-loop-p l =
