@@ -119,7 +119,7 @@ impl fmt::Display for Event {
 fn event_of(wanted: Order, shelf: u64, output: Output) -> Event
     ensures { result ≡ event_of wanted shelf output }
 {
-    let order = Order::of(output.value);
+    let order = Order::from(output.value);
     if output.process == DISPATCH {
         Event::Picked(PickingNote(order))
     } else if order.quantity == 0 && wanted.quantity != 0 {

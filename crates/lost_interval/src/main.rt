@@ -79,7 +79,7 @@ fn show(rt: &HostRuntime) -> anyhow::Result<()> {
     };
     let mut table = Table::new(3, Orders.start(INTAKE));
     input(&mut table, STOCK, 10);
-    input(&mut table, INTAKE, order.value());
+    input(&mut table, INTAKE, u64::from(order));
     deliver(&mut table, INTAKE, STOCK);
     deliver(&mut table, STOCK, DISPATCH);
     tell(

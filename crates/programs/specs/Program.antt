@@ -1,6 +1,6 @@
 -- What a program means: its two functions, and the rule on targets.
 use Rattle.std.specs.Prelude.{ℕ, ◌+◌, ◌%◌, ◌^◌, ◌<◌, None, Option}
-use Rattle.std.specs.List.{AllByRecursion}
+use Rattle.std.specs.List.{All}
 use Rattle.programs.specs.Values.{listed}
 use Rattle.programs.specs.declared.values.State.{State}
 use Rattle.programs.specs.declared.values.Send.{Send}
@@ -19,7 +19,7 @@ pub record Meaning : Type 0 where
 
 -- sends go to processes 0 to 7 only
 abbrev pub Targeted : Meaning → Type 0
-Targeted M = (p : ℕ) (s : State) (source value : ℕ) → AllByRecursion (λ m. m.target < 8) (listed (M.step p s source value).1)
+Targeted M = (p : ℕ) (s : State) (source value : ℕ) → All (λ m. m.target < 8) (listed (M.step p s source value).1)
 
 -- The words that both programs of the house use.
 

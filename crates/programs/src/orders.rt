@@ -3,7 +3,7 @@ ghost use Rattle.std.specs.Prelude.{◌≡◌};
 ghost use Rattle.programs.specs.Orders.{orders, order_number, order_quantity, order_value, intake_order, intake_answer, stock_delivery, stock_order, dispatch_order};
 ghost use Rattle.std.proofs.Common.{rules};
 
-use crate::program::Program;
+use crate::program::{Program, Step};
 use crate::values::{OUTSIDE, Send, Sends, State};
 
 pub const INTAKE: u8 = 0;
@@ -22,28 +22,26 @@ pub struct Order {
     pub quantity: u32,
 }
 
-impl Order {
-    // The order that a value stands for.
-    pub fn of(value: u64) -> Order
-        ensures number { result.number ≡ order_number value }
-        ensures quantity { result.quantity ≡ order_quantity value }
-    {
+// The order that a value stands for.
+impl From<u64> for Order {
+    ghost from_gives = { λ value order. (order.number ≡ order_number value) × (order.quantity ≡ order_quantity value) };
+
+    fn from(value: u64) -> Order {
         Order {
             number: (value / QUANTITIES) as u32,
             quantity: (value % QUANTITIES) as u32,
         }
     }
-
-    // The value that stands for this order.
-    pub fn value(self) -> u64
-        ensures { result ≡ order_value self.number self.quantity }
-    {
-        u64::from(self.number) * QUANTITIES + u64::from(self.quantity)
-    }
 }
 
-// What a step gives.
-type Step = (State, Sends, Option<u64>);
+// The value that stands for an order.
+impl From<Order> for u64 {
+    ghost from_gives = { λ order value. value ≡ order_value order.number order.quantity };
+
+    fn from(order: Order) -> u64 {
+        u64::from(order.number) * QUANTITIES + u64::from(order.quantity)
+    }
+}
 
 fn take_order(state: State, value: u64) -> Step
     ensures { result ≡ intake_order state value }
@@ -52,7 +50,7 @@ fn take_order(state: State, value: u64) -> Step
         a: state.a.wrapping_add(1),
         ..state
     };
-    if Order::of(value).quantity == 0 {
+    if Order::from(value).quantity == 0 {
         (counted, Sends::Nothing, Some(value))
     } else {
         (
@@ -69,7 +67,7 @@ fn take_order(state: State, value: u64) -> Step
 fn confirm(state: State, value: u64) -> Step
     ensures { result ≡ intake_answer state value }
 {
-    let pieces = u64::from(Order::of(value).quantity);
+    let pieces = u64::from(Order::from(value).quantity);
     let confirmed = State {
         b: state.b.saturating_add(pieces),
         ..state
@@ -80,7 +78,7 @@ fn confirm(state: State, value: u64) -> Step
 fn receive_goods(state: State, value: u64) -> Step
     ensures { result ≡ stock_delivery state value }
 {
-    let pieces = u64::from(Order::of(value).quantity);
+    let pieces = u64::from(Order::from(value).quantity);
     let filled = State {
         a: state.a.saturating_add(pieces),
         ..state
@@ -91,7 +89,7 @@ fn receive_goods(state: State, value: u64) -> Step
 fn set_aside(state: State, value: u64) -> Step
     ensures { result ≡ stock_order state value }
 {
-    let order = Order::of(value);
+    let order = Order::from(value);
     let pieces = u64::from(order.quantity);
     if pieces <= state.a {
         let left = State {
@@ -118,7 +116,7 @@ fn set_aside(state: State, value: u64) -> Step
         };
         let answer = Send {
             target: INTAKE,
-            value: refusal.value(),
+            value: u64::from(refusal),
         };
         (counted, Sends::One(answer), None)
     }
@@ -146,13 +144,7 @@ impl Program for Orders {
         State::ZERO
     }
 
-    fn step(
-        &self,
-        process: u8,
-        state: State,
-        source: u8,
-        value: u64,
-    ) -> (State, Sends, Option<u64>) {
+    fn step(&self, process: u8, state: State, source: u8, value: u64) -> Step {
         match (process, source) {
             (INTAKE, OUTSIDE) => take_order(state, value),
             (INTAKE, STOCK) => confirm(state, value),

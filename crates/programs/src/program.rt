@@ -4,6 +4,9 @@ ghost use Rattle.programs.specs.Program.{Meaning, Targeted};
 
 use crate::values::{Sends, State};
 
+// What a step gives: the new state, the sends and the output.
+pub type Step = (State, Sends, Option<u64>);
+
 // Both functions take `&self`: a program stays as it is.
 pub trait Program {
     ghost means: { Self → Meaning };
@@ -12,8 +15,8 @@ pub trait Program {
     fn start(&self, process: u8) -> State
         ensures { result ≡ (means self.now).start process };
 
-    // What a process does with a value from `source`, a process or `OUTSIDE`: its new state, its sends, its output.
-    fn step(&self, process: u8, state: State, source: u8, value: u64) -> (State, Sends, Option<u64>)
+    // What a process does with a value from `source`, a process or `OUTSIDE`.
+    fn step(&self, process: u8, state: State, source: u8, value: u64) -> Step
         ensures { result ≡ (means self.now).step process state source value };
 
     // Every target of a send is below 8.

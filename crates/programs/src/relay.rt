@@ -3,7 +3,7 @@ ghost use Rattle.std.specs.Prelude.{◌≡◌};
 ghost use Rattle.programs.specs.Relay.{relay, stirred};
 ghost use Rattle.std.proofs.Common.{rules};
 
-use crate::program::Program;
+use crate::program::{Program, Step};
 use crate::values::{Send, Sends, State};
 
 // Counts the step, and stirs the value into b.
@@ -29,13 +29,7 @@ impl Program for Relay {
         State::ZERO
     }
 
-    fn step(
-        &self,
-        process: u8,
-        state: State,
-        _source: u8,
-        value: u64,
-    ) -> (State, Sends, Option<u64>) {
+    fn step(&self, process: u8, state: State, _source: u8, value: u64) -> Step {
         if process > 2 {
             return (state, Sends::Nothing, None);
         }

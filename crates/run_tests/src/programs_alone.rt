@@ -5,7 +5,7 @@ use programs::relay::Relay;
 use programs::values::{OUTSIDE, Send, Sends, State};
 
 fn order(number: u32, quantity: u32) -> u64 {
-    Order { number, quantity }.value()
+    u64::from(Order { number, quantity })
 }
 
 #[test]

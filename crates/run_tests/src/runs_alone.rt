@@ -6,7 +6,7 @@ use runs::runner::{Message, Output, RunError, Runner};
 use std::test::Fail;
 
 fn order(number: u32, quantity: u32) -> u64 {
-    Order { number, quantity }.value()
+    u64::from(Order { number, quantity })
 }
 
 // Stock comes in, and an order goes from intake to its picking note and its confirmation.

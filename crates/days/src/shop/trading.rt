@@ -45,7 +45,7 @@ impl Shop {
     {
         match entry {
             Entry::Stock(pieces) => self.run.take(STOCK, u64::from(pieces)),
-            Entry::Placed(order) => self.run.take(INTAKE, order.value()),
+            Entry::Placed(order) => self.run.take(INTAKE, u64::from(order)),
         }
     }
 
