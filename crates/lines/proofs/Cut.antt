@@ -1,7 +1,7 @@
 -- What a run has recorded, cut back to a consistent line, is again what a run records.
 use Rattle.std.proofs.Common.{◌≡◌, ℕ, zero, suc, ◌<◌, ◌≤◌, ◌⊎◌, List, [], ◌∷◌, ◌++◌, length, take, drop, sym, ap, ◌∙◌, subst, inl, inr, arith}
-use Rattle.std.specs.List.{AllByRecursion as All}
-use Rattle.std.proofs.ByRecursion.{All-take, All-drop}
+use Rattle.std.specs.List.{All}
+use Rattle.std.proofs.lemmas.List.Elements.{All-nil, All-head, All-tail, All-take, All-drop}
 use Rattle.std.proofs.lemmas.List.{take-append-le, take_all, take-take, take-append-drop, drop_all, length_push}
 use Rattle.std.proofs.lemmas.Grind.{flat_map-append}
 use Rattle.std.proofs.lemmas.Bool.{cases_eq, cases_lt}
@@ -23,7 +23,7 @@ built_same (delivery q p m ms built sender exists first grows) same = delivery q
 -- what is at or before k in a list whose rest comes after k stands in its first part
 first_part : (k n : ℕ) (xs ys : List Message) (m : Message) (ms : List Message) → drop n (xs ++ ys) ≡ m ∷ ms → All (λ x. k < x.sent_at) ys → m.sent_at ≤ k → (rest : List Message) × (drop n xs ≡ m ∷ rest)
 first_part k n [] ys m ms e late early =
-    absurd (let some : All (λ (x : Message). k < x.sent_at) (m ∷ ms) = subst (All (λ x. k < x.sent_at)) e (All-drop (λ x. k < x.sent_at) n ys late) in omega (arith, some.0))
+    absurd (let some : All (λ (x : Message). k < x.sent_at) (m ∷ ms) = subst (All (λ x. k < x.sent_at)) e (All-drop (λ x. k < x.sent_at) n ys late) in omega (arith, All-head (λ (x : Message). k < x.sent_at) m ms some))
 first_part k zero (x ∷ xs) ys m ms e late early = (xs, let same : x ≡ m = cc in ap (λ y. y ∷ xs) same)
 first_part k (suc n) (x ∷ xs) ys m ms e late early = first_part k n xs ys m ms e late early
 
@@ -71,15 +71,15 @@ module _ (N : ℕ) (L : Line) {F G : Family} {p : ℕ} {x : Interval} (grows : G
       all_last (F p) (subst (All (Backed N L)) (take_all (L p) (F p ++ (x ∷ [])) (simp length_push (omega arith))) (subst (λ xs. All (Backed N L) (take (L p) xs)) grows.here (consistent p exists)))
     where
       all_last : (xs : List Interval) → All (Backed N L) (xs ++ (x ∷ [])) → Backed N L x
-      all_last [] all = all.0
-      all_last (y ∷ ys) all = all_last ys all.1
+      all_last [] all = All-head (Backed N L) x [] all
+      all_last (y ∷ ys) all = all_last ys (All-tail (Backed N L) y (ys ++ (x ∷ [])) all)
 
 -- behind the first k intervals everything is sent after k
 rest_late : (k t : ℕ) (xs : List Interval) → From 0 xs → All (λ m. k < m.sent_at) (channel t (drop k xs))
 rest_late k t xs from = go (cases_lt (length xs) k)
   where
     go : (length xs < k) ⊎ (k ≤ length xs) → All (λ m. k < m.sent_at) (channel t (drop k xs))
-    go (inl h) = subst (λ ys. All (λ m. k < m.sent_at) (channel t ys)) (sym (drop_all k xs (omega arith))) tt
+    go (inl h) = subst (λ ys. All (λ m. k < m.sent_at) (channel t ys)) (sym (drop_all k xs (omega arith))) (All-nil _)
     go (inr h) = sent_late k t (drop k xs) (subst (λ n. From n (drop k xs)) (omega arith) (from_drop 0 k xs from h))
 
 -- a message sent at or before the line still waits when the sender is cut to it

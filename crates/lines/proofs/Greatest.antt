@@ -1,7 +1,7 @@
 -- The greatest line is consistent, within the counts and nowhere below such a line; and it is the only one.
 use Rattle.std.proofs.Common.{◌≡◌, ℕ, zero, suc, ◌+◌, ◌<◌, ◌≤◌, min, Bool, true, false, not, ◌||◌, ltb, leb, ◌⊎◌, List, [], ◌∷◌, length, take, sym, refl, ap, ◌∙◌, subst, inl, inr, arith}
-use Rattle.std.specs.List.{prefix_len, AllByRecursion as All}
-use Rattle.std.proofs.ByRecursion.{All-weaker}
+use Rattle.std.specs.List.{prefix_len, All}
+use Rattle.std.proofs.lemmas.List.Elements.{All-nil, All-cons, All-head, All-tail, All-weaker}
 use Rattle.std.proofs.lemmas.List.{length-take, take-take}
 use Rattle.std.proofs.lemmas.List.Sums.{prefix_len-le-length}
 use Rattle.std.proofs.lemmas.Bool.{cases_lt, cases_Bool, cond-true, lt-ltb}
@@ -24,16 +24,16 @@ true_backed N L x h = go (cases_lt x.source N)
 leading_front : {X : Type 0} (test : X → Bool) (n : ℕ) (xs : List X) → n ≤ length xs → All (λ x. test x ≡ true) (take n xs) → n ≤ prefix_len test xs
 leading_front test zero xs h all = omega arith
 leading_front test (suc n) [] h all = absurd (omega arith)
-leading_front test (suc n) (x ∷ xs) h all = rw all.0 (let more : n ≤ prefix_len test xs = leading_front test n xs (omega arith) all.1 in omega arith)
+leading_front test (suc n) (x ∷ xs) h all = rw (All-head (λ y. test y ≡ true) x (take n xs) all) (let more : n ≤ prefix_len test xs = leading_front test n xs (omega arith) (All-tail (λ y. test y ≡ true) x (take n xs) all) in omega arith)
 
 -- and the longest passes
 front_passes : {X : Type 0} (test : X → Bool) (n : ℕ) (xs : List X) → n ≤ prefix_len test xs → All (λ x. test x ≡ true) (take n xs)
-front_passes test zero xs h = tt
-front_passes test (suc n) [] h = tt
+front_passes test zero xs h = All-nil _
+front_passes test (suc n) [] h = All-nil _
 front_passes test (suc n) (x ∷ xs) h = go (λ k. front_passes test n xs k) (cases_Bool (test x))
   where
     go : (n ≤ prefix_len test xs → All (λ y. test y ≡ true) (take n xs)) → (test x ≡ true) ⊎ (test x ≡ false) → All (λ y. test y ≡ true) (take (suc n) (x ∷ xs))
-    go more (inl e) = (e, more (let k : suc n ≤ 1 + prefix_len test xs = rw e at h in omega arith))
+    go more (inl e) = All-cons (λ y. test y ≡ true) x (take n xs) e (more (let k : suc n ≤ 1 + prefix_len test xs = rw e at h in omega arith))
     go more (inr e) = absurd (let k : suc n ≤ 0 = rw e at h in omega arith)
 
 total_le : (N : ℕ) (K L : Line) → ((p : ℕ) → p < N → K p ≤ L p) → total N K ≤ total N L

@@ -1,7 +1,7 @@
 -- What a run records has indexes without a gap, so a channel's messages come in the order of their intervals.
 use Rattle.std.proofs.Common.{◌≡◌, ℕ, zero, suc, ◌+◌, ◌<◌, ◌≤◌, eqb, ◌⊎◌, List, [], ◌∷◌, ◌++◌, map, length, take, drop, filter, sym, subst, inl, inr, arith}
-use Rattle.std.specs.List.{AllByRecursion as All}
-use Rattle.std.proofs.ByRecursion.{All-append, All-weaker}
+use Rattle.std.specs.List.{All}
+use Rattle.std.proofs.lemmas.List.Elements.{All-nil, All-cons, All-append, All-weaker}
 use Rattle.std.proofs.lemmas.Bool.{cases_eq}
 use Rattle.programs.specs.Program.{Meaning}
 use Rattle.programs.specs.Values.{listed}
@@ -34,18 +34,18 @@ all_sent_in : (P : ℕ → Type 0) (t : ℕ) (x : Interval) → P x.index → Al
 all_sent_in P t x h = go (filter (λ m. eqb m.target t) (listed x.sends))
   where
     go : (ms : List Send) → All (λ (m : Message). P m.sent_at) (map (λ (m : Send). record { value = m.value; sent_at = x.index }) ms)
-    go [] = tt
-    go (m ∷ ms) = (h, go ms)
+    go [] = All-nil (λ (m : Message). P m.sent_at)
+    go (m ∷ ms) = All-cons (λ (m : Message). P m.sent_at) (record { value = m.value; sent_at = x.index }) (map (λ (m : Send). record { value = m.value; sent_at = x.index }) ms) h (go ms)
 
 -- messages of intervals after n were sent after n, and at the last interval or before it
 pub sent_late : (n t : ℕ) (xs : List Interval) → From n xs → All (λ m. n < m.sent_at) (channel t xs)
-sent_late n t [] h = tt
+sent_late n t [] h = All-nil _
 sent_late n t (x ∷ xs) h =
     All-append (λ m. n < m.sent_at) (sent_in t x) (channel t xs) (all_sent_in (λ k. n < k) t x (omega (arith, h.0)))
     (All-weaker (λ m. n + 1 < m.sent_at) (λ m. n < m.sent_at) (λ m k. omega arith) (channel t xs) (sent_late (n + 1) t xs h.1))
 
 pub sent_early : (n t : ℕ) (xs : List Interval) → From n xs → All (λ m. m.sent_at ≤ n + length xs) (channel t xs)
-sent_early n t [] h = tt
+sent_early n t [] h = All-nil _
 sent_early n t (x ∷ xs) h =
     All-append (λ m. m.sent_at ≤ n + suc (length xs)) (sent_in t x) (channel t xs) (all_sent_in (λ k. k ≤ n + suc (length xs)) t x (omega (arith, h.0)))
     (All-weaker (λ m. m.sent_at ≤ n + 1 + length xs) (λ m. m.sent_at ≤ n + suc (length xs)) (λ m k. omega arith) (channel t xs) (sent_early (n + 1) t xs h.1))

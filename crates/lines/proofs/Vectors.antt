@@ -1,8 +1,8 @@
 -- In what a run records, a line within the rows is consistent exactly if it covers its vectors.
 use Rattle.std.proofs.Common.{◌≡◌, ℕ, zero, suc, ◌+◌, ◌<◌, ◌≤◌, max, ◌⊎◌, List, [], ◌∷◌, ◌++◌, length, get_or, take, set, fold, sym, refl, ap, ◌∙◌, subst, inl, inr, arith}
-use Rattle.std.specs.List.{AllByRecursion as All}
+use Rattle.std.specs.List.{All}
 use Rattle.std.proofs.lemmas.List.FromFn.{get_or-map-range_with_len, length-map-range_with_len}
-use Rattle.std.proofs.ByRecursion.{All-push, All-take, All-drop}
+use Rattle.std.proofs.lemmas.List.Elements.{All-nil, All-cons, All-head, All-push, All-take, All-drop}
 use Rattle.std.proofs.lemmas.List.{get_or-set_same, get_or-set_other, length-set, get_or-replicate, take_all, length_push}
 use Rattle.std.proofs.lemmas.List.Sums.{fold_push}
 use Rattle.std.proofs.lemmas.Bool.{cases_eq, cases_lt}
@@ -79,10 +79,10 @@ merged_entry v w r h = get_or-map-range_with_len (λ i. max (get_or v i 0) (get_
 -- one interval more, whose vector is at least the last one, with its own entry raised
 vectored_push : {N : ℕ} (p : ℕ) (xs : List Interval) (x : Interval) (base : List ℕ) → p < 8 → Vectored N p xs → x.vector ≡ set base p (length xs + 1) → length base ≡ 8 →
     ((r : ℕ) → r < 8 → entry (vector_after xs) r ≤ entry base r) → (x.source < N → x.sent_at ≤ entry x.vector x.source) → Vectored N p (xs ++ (x ∷ []))
-vectored_push p xs x base h v e long above heard = record {
+vectored_push {N} p xs x base h v e long above heard = record {
   rises = rises_push no_vector xs x v.rises (λ r k. go r k (cases_eq r p));
   own = own_push p 0 xs x v.own (here ∙ omega arith);
-  heard = All-push _ xs x v.heard heard;
+  heard = All-push (λ (y : Interval). y.source < N → y.sent_at ≤ entry y.vector y.source) xs x v.heard heard;
   long = ap length (fold_push (λ _ y. y.vector) no_vector xs x ∙ e) ∙ length-set base p (length xs + 1) ∙ long;
 }
   where
@@ -94,7 +94,7 @@ vectored_push p xs x base h v e long above heard = record {
     go r k (inr n) = omega (arith, ap (λ w. entry w r) e, get_or-set_other base p r (length xs + 1) 0 n, above r k)
 
 vectored : {M : Meaning} {N : ℕ} {given : Given} {F : Family} → Built M N given F → N ≤ 8 → (p : ℕ) → Vectored N p (F p)
-vectored {M} {N} (begins none) few = λ p. subst (Vectored N p) (sym (none p)) record { rises = tt; own = tt; heard = tt; long = refl }
+vectored {M} {N} (begins none) few = λ p. subst (Vectored N p) (sym (none p)) record { rises = tt; own = tt; heard = All-nil _; long = refl }
 vectored {M} {N} (input {F} p v built exists g grows) few =
     grows_each (Vectored N) grows (vectored built few)
     (vectored_push p (F p) (by_input M N p (play M p (F p)) (F p) v) (vector_after (F p)) (omega arith) (vectored built few p) refl (vectored built few p).long (λ r k. omega arith) (λ k. absurd (omega arith)))
@@ -109,7 +109,7 @@ vectored {M} {N} (delivery {F} q p m ms built sender exists first grows) few =
         (λ k. go (cases_eq q p))
       where
         early : m.sent_at ≤ length (F q)
-        early = let some : All (λ (y : Message). y.sent_at ≤ 0 + length (F q)) (m ∷ ms) = subst (All (λ y. y.sent_at ≤ 0 + length (F q))) first all in omega (arith, some.0)
+        early = let some : All (λ (y : Message). y.sent_at ≤ 0 + length (F q)) (m ∷ ms) = subst (All (λ y. y.sent_at ≤ 0 + length (F q))) first all in omega (arith, All-head (λ (y : Message). y.sent_at ≤ 0 + length (F q)) m ms some)
 
         go : (q ≡ p) ⊎ (q ≡ p → ⊥) → m.sent_at ≤ entry (set (merged (vector_after (F p)) (vector_after (take m.sent_at (F q)))) p (length (F p) + 1)) q
         go (inl e) =
@@ -166,19 +166,18 @@ module _ {N : ℕ} (few : N ≤ 8) (L : Line) where
       )))
 
 all_both : {X : Type 0} (P Q R : X → Type 0) → ((x : X) → P x → Q x → R x) → (xs : List X) → All P xs → All Q xs → All R xs
-all_both P Q R f [] a b = tt
-all_both P Q R f (x ∷ xs) a b = (f x a.0 b.0, all_both P Q R f xs a.1 b.1)
+all_both P Q R f xs a b k d h = f (get_or xs k d) (a k d h) (b k d h)
 
 -- each vector is at most the last
 below_last : (v : List ℕ) (xs : List Interval) → Rises v xs → All (λ x. (r : ℕ) → r < 8 → entry x.vector r ≤ entry (after v xs) r) xs
-below_last v [] h = tt
-below_last v (x ∷ xs) h = (rises_from x.vector xs h.1, below_last x.vector xs h.1)
+below_last v [] h = All-nil _
+below_last v (x ∷ xs) h = All-cons (λ (y : Interval). (r : ℕ) → r < 8 → entry y.vector r ≤ entry (after x.vector xs) r) x xs (rises_from x.vector xs h.1) (below_last x.vector xs h.1)
 
 pub covers_consistent : {M : Meaning} {N : ℕ} {given : Given} {F : Family} → Built M N given F → N ≤ 8 → (L : Line) → Covered N F L → Consistent N F L
 covers_consistent {M} {N} {given} {F} built few L covered p h =
     all_both (λ x. x.source < N → x.sent_at ≤ entry x.vector x.source) (λ x. (r : ℕ) → r < 8 → entry x.vector r ≤ entry (vector_after (take (L p) (F p))) r) (Backed N L)
     (λ x heard low s. omega (arith, heard s, low x.source (omega arith), covered p x.source h s)) (take (L p) (F p))
-    (All-take _ (L p) (F p) (vectored built few p).heard) (below_last no_vector (take (L p) (F p)) (rises_front no_vector (L p) (F p) (vectored built few p).rises))
+    (All-take (λ (x : Interval). x.source < N → x.sent_at ≤ entry x.vector x.source) (L p) (F p) (vectored built few p).heard) (below_last no_vector (take (L p) (F p)) (rises_front no_vector (L p) (F p) (vectored built few p).rises))
 
 pub consistent_covers : {M : Meaning} {N : ℕ} {given : Given} {F : Family} → Built M N given F → N ≤ 8 → (L : Line) → Consistent N F L → Covered N F L
 consistent_covers built few L consistent = covers few L built consistent

@@ -1,6 +1,6 @@
 -- Recovery lines: which are consistent, and the greatest.
 use Rattle.std.specs.Prelude.{ℕ, zero, suc, ◌+◌, ◌<◌, ◌≤◌, min, Bool, cond, not, ◌||◌, length, take, nat_le, nat_lt}
-use Rattle.std.specs.List.{prefix_len, AllByRecursion}
+use Rattle.std.specs.List.{prefix_len, All}
 use Rattle.records.specs.declared.Interval.{Interval}
 use Rattle.lines.specs.Intervals.{Family}
 
@@ -14,7 +14,7 @@ Backed N L x = x.source < N → x.sent_at ≤ L x.source
 
 -- every message taken in an interval up to the line was sent at or before it
 abbrev pub Consistent : ℕ → Family → Line → Type 0
-Consistent N F L = (p : ℕ) → p < N → AllByRecursion (Backed N L) (take (L p) (F p))
+Consistent N F L = (p : ℕ) → p < N → All (Backed N L) (take (L p) (F p))
 
 -- the line is within the counts, where a count above a row's length means that length
 abbrev pub Within : ℕ → Family → Line → Line → Type 0
