@@ -1,6 +1,6 @@
 -- The ledger is what the host holds.
 use Rattle.std.proofs.Common.{◌≡◌, ℕ, ◌+◌, ◌-◌, ◌<◌, ◌≤◌, Bool, true, false, cond, ltb, ◌⊎◌, List, [], ◌∷◌, ◌++◌, map, length, take, Ok, Err, sym, refl, ap, ◌∙◌, subst, inl, inr, arith}
-use Rattle.std.specs.List.{AllByRecursion as All}
+use Rattle.std.specs.List.{All}
 use Rattle.std.proofs.lemmas.List.{append-nil, take_all, length-append, length-take, length-drop, length-map, length_push}
 use Rattle.std.proofs.lemmas.Bool.{cases_eq, not-false, ltb-false, cond-true}
 use Rattle.programs.specs.Program.{Meaning}

@@ -1,6 +1,6 @@
 -- What each call of a host promises, beside its answer.
 use Rattle.std.specs.Prelude.{◌≡◌, ℕ, true, List, [], ◌∷◌, ◌++◌}
-use Rattle.std.specs.List.{AllByRecursion}
+use Rattle.std.specs.List.{All}
 use Rattle.programs.specs.Program.{Meaning}
 use Rattle.lines.specs.Intervals.{play}
 use Rattle.histories.specs.History.{Does, History, First}
@@ -12,7 +12,7 @@ use Rattle.histories.specs.World.{World}
 -- and the state of each checkpoint that stands is the front of its process's saved intervals played
 pub record Tied (M : Meaning) (w : World) : Type 0 where
   pub states : (p : ℕ) → w.up p ≡ true → w.state p ≡ play M p (w.intervals p)
-  pub checkpoints : (p : ℕ) → AllByRecursion (PlayedFront M p ((reading w.store.records).rows p)) ((reading w.store.records).checkpoints p)
+  pub checkpoints : (p : ℕ) → All (PlayedFront M p ((reading w.store.records).rows p)) ((reading w.store.records).checkpoints p)
 
 -- a host that was made, and then called
 pub record Reached (M : Meaning) (N : ℕ) (w : World) : Type 0 where

@@ -1,7 +1,7 @@
 -- A line that is lowered process by process comes to the greatest.
-use Rattle.std.proofs.Common.{◌≡◌, ℕ, zero, suc, ◌+◌, ◌<◌, ◌≤◌, min, Bool, true, false, ltb, ◌⊎◌, List, [], length, get_or, take, set, replicate, sum, sym, refl, ap, ◌∙◌, subst, inl, inr, arith, below_more}
-use Rattle.std.specs.List.{prefix_len, AllByRecursion}
-use Rattle.std.proofs.ByRecursion.{All-get_or, All-weaker}
+use Rattle.std.proofs.Common.{◌≡◌, ℕ, zero, suc, ◌+◌, ◌<◌, ◌≤◌, min, Bool, true, false, ◌||◌, ltb, ◌⊎◌, List, [], length, get_or, take, set, replicate, sum, sym, refl, ap, ◌∙◌, subst, inl, inr, arith, below_more}
+use Rattle.std.specs.List.{prefix_len, All}
+use Rattle.std.proofs.lemmas.List.Elements.{All-get_or, All-weaker}
 use Rattle.std.proofs.lemmas.List.{get_or-take, get_or_default, get_or-set_same, get_or-set_other, set-get_or, get_or-replicate, length-take-le, take-take, take_all}
 use Rattle.std.proofs.lemmas.List.Sums.{sum_by-set}
 use Rattle.std.proofs.lemmas.Bool.{cases_lt, cases_eq, cond-true, cond-false, lt-ltb, le-ltb, true≢false, false≢true}
@@ -14,17 +14,17 @@ use Rattle.tables.specs.Lowering.{RowsHold, Longest, Lower, Lowers, Known}
 use Rattle.rows.proofs.Finding.{blank}
 
 module _ (N : ℕ) (L : Line) (xs : List Interval) where
-  pub front_stops : (i : ℕ) (d : Interval) → i < length xs → AllByRecursion (Backed N L) (take i xs) → (Backed N L (get_or xs i d) → ⊥) → Longest N L xs i
+  pub front_stops : (i : ℕ) (d : Interval) → i < length xs → All (Backed N L) (take i xs) → (Backed N L (get_or xs i d) → ⊥) → Longest N L xs i
   front_stops i d h all n = record {
     within = omega arith;
     backed = all;
     next = λ e l b. n (subst (Backed N L) (get_or_default xs i e d l) b);
   }
 
-  pub front_whole : (i : ℕ) → length xs ≤ i → AllByRecursion (Backed N L) (take i xs) → Longest N L xs (length xs)
+  pub front_whole : (i : ℕ) → length xs ≤ i → All (Backed N L) (take i xs) → Longest N L xs (length xs)
   front_whole i h all = record {
     within = omega arith;
-    backed = subst (AllByRecursion (Backed N L)) (take_all i xs h ∙ sym (take_all (length xs) xs (omega arith))) all;
+    backed = subst (All (Backed N L)) (take_all i xs h ∙ sym (take_all (length xs) xs (omega arith))) all;
     next = λ e l b. omega arith;
   }
 
@@ -70,31 +70,56 @@ module _ (N : ℕ) (F : Family) (xs : List ℕ) (p n : ℕ) (exists : p < N) (pl
   pub lower_less : n < line_of xs p → sum (set xs p n) < sum xs
   lower_less h = omega (arith, sum_by-set (λ x. x) xs p n 0 place)
 
-  pub lower_stays : line_of xs p ≤ n → (set xs p n ≡ xs) × AllByRecursion (Backed N (line_of (set xs p n))) (take (line_of (set xs p n) p) (F p))
+  pub lower_stays : line_of xs p ≤ n → (set xs p n ≡ xs) × All (Backed N (line_of (set xs p n))) (take (line_of (set xs p n) p) (F p))
   lower_stays h =
       let same : n ≡ line_of xs p = omega (arith, lower_long, front.within) in
       let whole : set xs p n ≡ xs = ap (set xs p) same ∙ set-get_or xs p 0 in (
         whole,
-        subst (λ ys. AllByRecursion (Backed N (line_of ys)) (take (line_of ys p) (F p))) (sym whole)
-            (subst (AllByRecursion (Backed N (line_of xs))) (ap (λ k. take k (take (line_of xs p) (F p))) same ∙ take-take (line_of xs p) (line_of xs p) (F p) (omega arith)) front.backed),
+        subst (λ ys. All (Backed N (line_of ys)) (take (line_of ys p) (F p))) (sym whole)
+            (subst (All (Backed N (line_of xs))) (ap (λ k. take k (take (line_of xs p) (F p))) same ∙ take-take (line_of xs p) (line_of xs p) (F p) (omega arith)) front.backed),
       )
 
   -- what is known stays known, and of p the new needs are
-  pub lower_known : (needs : List (List ℕ)) (new : List ℕ) → p < length needs → Known N F xs needs → AllByRecursion (Backed N (line_of new)) (take n (F p)) → Known N F (set xs p n) (set needs p new)
+  pub lower_known : (needs : List (List ℕ)) (new : List ℕ) → p < length needs → Known N F xs needs → All (Backed N (line_of new)) (take n (F p)) → Known N F (set xs p n) (set needs p new)
   lower_known needs new room known backed q h = go (cases_eq q p)
     where
-      go : (q ≡ p) ⊎ (q ≡ p → ⊥) → ((r : ℕ) → r < N → line_of (get_or (set needs p new) q []) r ≤ line_of (set xs p n) r) → AllByRecursion (Backed N (line_of (get_or (set needs p new) q []))) (take (line_of (set xs p n) q) (F q))
+      go : (q ≡ p) ⊎ (q ≡ p → ⊥) → ((r : ℕ) → r < N → line_of (get_or (set needs p new) q []) r ≤ line_of (set xs p n) r) → All (Backed N (line_of (get_or (set needs p new) q []))) (take (line_of (set xs p n) q) (F q))
       go (inl e) reach =
-          subst (λ r. AllByRecursion (Backed N (line_of (get_or (set needs p new) r []))) (take (line_of (set xs p n) r) (F r))) (sym e)
-          (subst (λ ms. AllByRecursion (Backed N (line_of ms)) (take (line_of (set xs p n) p) (F p))) (sym (get_or-set_same needs p new [] room)) (subst (λ k. AllByRecursion (Backed N (line_of new)) (take k (F p))) (sym at_process) backed))
+          subst (λ r. All (Backed N (line_of (get_or (set needs p new) r []))) (take (line_of (set xs p n) r) (F r))) (sym e)
+          (subst (λ ms. All (Backed N (line_of ms)) (take (line_of (set xs p n) p) (F p))) (sym (get_or-set_same needs p new [] room)) (subst (λ k. All (Backed N (line_of new)) (take k (F p))) (sym at_process) backed))
       go (inr a) reach =
           let same = get_or-set_other needs p q new [] a in
-          subst (λ ms. AllByRecursion (Backed N (line_of ms)) (take (line_of (set xs p n) q) (F q))) (sym same)
-          (subst (λ k. AllByRecursion (Backed N (line_of (get_or needs q []))) (take k (F q))) (sym (get_or-set_other xs p q n 0 a))
+          subst (λ ms. All (Backed N (line_of ms)) (take (line_of (set xs p n) q) (F q))) (sym same)
+          (subst (λ k. All (Backed N (line_of (get_or needs q []))) (take k (F q))) (sym (get_or-set_other xs p q n 0 a))
           (known q h (λ r l. let b = lower_front.below r in let c = reach r l in omega (arith, ap (λ ms. line_of ms r) same))))
 
+pub rows_hold_lower : (N : ℕ) (F : Family) (xs ys : List ℕ) → RowsHold N F xs → Lower N F xs ys → RowsHold N F ys
+rows_hold_lower N F xs ys hold low p h = omega (arith, hold p h, low.below p)
+
+-- all that is so of a line and of the needs once process p is lowered to a front of n that needs `new`
+pub record LoweredOne (N : ℕ) (F : Family) (xs : List ℕ) (needs : List (List ℕ)) (p n : ℕ) (new : List ℕ) : Type 0 where
+  pub lower : Lower N F xs (set xs p n)
+  pub rows : RowsHold N F (set xs p n)
+  pub known : Known N F (set xs p n) (set needs p new)
+  pub less : n < line_of xs p → sum (set xs p n) < sum xs
+  pub stays : line_of xs p ≤ n → (set xs p n ≡ xs) × All (Backed N (line_of (set xs p n))) (take (line_of (set xs p n) p) (F p))
+
+pub lowered_one : (N : ℕ) (F : Family) (xs : List ℕ) (needs : List (List ℕ)) (p n : ℕ) (new : List ℕ) → p < N → p < length xs → p < length needs → RowsHold N F xs → Known N F xs needs →
+    Longest N (line_of xs) (take (line_of xs p) (F p)) n → All (Backed N (line_of new)) (take n (take (line_of xs p) (F p))) → LoweredOne N F xs needs p n new
+lowered_one N F xs needs p n new exists place room rows known front backed =
+    let within : n ≤ line_of xs p = omega (arith, front.within, length-take-le (line_of xs p) (F p) (rows p exists)) in
+    let low : Lower N F xs (set xs p n) = lower_front N F xs p n exists place (rows p exists) front in
+    record {
+      lower = low;
+      rows = rows_hold_lower N F xs (set xs p n) rows low;
+      known = lower_known N F xs p n exists place (rows p exists) front needs new room known
+          (subst (All (Backed N (line_of new))) (take-take n (line_of xs p) (F p) within) backed);
+      less = lower_less N F xs p n exists place (rows p exists) front;
+      stays = lower_stays N F xs p n exists place (rows p exists) front;
+    }
+
 -- a front whose needs the line reaches is backed
-pub known_backed : (N : ℕ) (F : Family) (xs : List ℕ) (needs : List (List ℕ)) (p : ℕ) → p < N → Known N F xs needs → ((q : ℕ) → q < N → line_of (get_or needs p []) q ≤ line_of xs q) → AllByRecursion (Backed N (line_of xs)) (take (line_of xs p) (F p))
+pub known_backed : (N : ℕ) (F : Family) (xs : List ℕ) (needs : List (List ℕ)) (p : ℕ) → p < N → Known N F xs needs → ((q : ℕ) → q < N → line_of (get_or needs p []) q ≤ line_of xs q) → All (Backed N (line_of xs)) (take (line_of xs p) (F p))
 known_backed N F xs needs p h known reach =
     All-weaker (Backed N (line_of (get_or needs p []))) (Backed N (line_of xs)) (λ x. backed_above N (line_of (get_or needs p [])) (line_of xs) x reach) (take (line_of xs p) (F p)) (known p h reach)
 
@@ -115,14 +140,11 @@ lower_again N F xs ys zs a b = record {
   keeps = λ K consistent within. b.keeps K consistent (a.keeps K consistent within);
 }
 
-pub rows_hold_lower : (N : ℕ) (F : Family) (xs ys : List ℕ) → RowsHold N F xs → Lower N F xs ys → RowsHold N F ys
-rows_hold_lower N F xs ys hold low p h = omega (arith, hold p h, low.below p)
-
 -- a round that has come to process p: the line xs is now ys
 pub record Round (N : ℕ) (F : Family) (xs ys : List ℕ) (p : ℕ) (lowered : Bool) : Type 0 where
   pub lower : Lower N F xs ys
   pub less : lowered ≡ true → sum ys < sum xs
-  pub stays : lowered ≡ false → (ys ≡ xs) × ((q : ℕ) → q < p → AllByRecursion (Backed N (line_of ys)) (take (line_of ys q) (F q)))
+  pub stays : lowered ≡ false → (ys ≡ xs) × ((q : ℕ) → q < p → All (Backed N (line_of ys)) (take (line_of ys q) (F q)))
 
 module _ (N : ℕ) (F : Family) (xs : List ℕ) where
   pub round_none : Round N F xs xs 0 false
@@ -139,16 +161,24 @@ module _ (N : ℕ) (F : Family) (xs : List ℕ) where
       go true f g = omega (arith, f refl)
       go false f g = omega (arith, ap sum (g refl))
 
-  pub round_stays : (ys zs : List ℕ) (p : ℕ) (b : Bool) → Round N F xs ys p b → Lower N F ys zs → zs ≡ ys → AllByRecursion (Backed N (line_of zs)) (take (line_of zs p) (F p)) → Round N F xs zs (p + 1) b
+  pub round_stays : (ys zs : List ℕ) (p : ℕ) (b : Bool) → Round N F xs ys p b → Lower N F ys zs → zs ≡ ys → All (Backed N (line_of zs)) (take (line_of zs p) (F p)) → Round N F xs zs (p + 1) b
   round_stays ys zs p b round low same all = record {
     lower = lower_again N F xs ys zs round.lower low;
     less = λ e. omega (arith, round.less e, ap sum same);
     stays = λ e. (
       same ∙ (round.stays e).0,
-      below_more (λ q. AllByRecursion (Backed N (line_of zs)) (take (line_of zs q) (F q))) p
-          (subst (λ ws. (q : ℕ) → q < p → AllByRecursion (Backed N (line_of ws)) (take (line_of ws q) (F q))) (sym same) (round.stays e).1) all,
+      below_more (λ q. All (Backed N (line_of zs)) (take (line_of zs q) (F q))) p
+          (subst (λ ws. (q : ℕ) → q < p → All (Backed N (line_of ws)) (take (line_of ws q) (F q))) (sym same) (round.stays e).1) all,
     );
   }
+
+  -- after process p, whether it went back or not
+  pub round_more : (ys zs : List ℕ) (p : ℕ) (b r : Bool) → Round N F xs ys p b → Lower N F ys zs → (r ≡ true → sum zs < sum ys) →
+      (r ≡ false → (zs ≡ ys) × All (Backed N (line_of zs)) (take (line_of zs p) (F p))) → Round N F xs zs (p + 1) (b || r)
+  round_more ys zs p true true round low less stays = round_lowers ys zs p true round low (less refl)
+  round_more ys zs p false true round low less stays = round_lowers ys zs p false round low (less refl)
+  round_more ys zs p true false round low less stays = round_stays ys zs p true round low (stays refl).0 (stays refl).1
+  round_more ys zs p false false round low less stays = round_stays ys zs p false round low (stays refl).0 (stays refl).1
 
   pub round_all : (ys : List ℕ) (p : ℕ) (b : Bool) → N ≤ p → Round N F xs ys p b → Lowers N F xs ys b
   round_all ys p b h round = record { lower = round.lower; less = round.less; stays = λ e q l. (round.stays e).1 q (omega arith) }

@@ -3,8 +3,7 @@ use Rattle.std.specs.Prelude.{◌≡◌, ℕ, ◌<◌, min, false, cond, [], map
 use Rattle.programs.specs.Program.{zeros}
 use Rattle.programs.specs.declared.values.State.{State}
 use Rattle.lines.specs.Intervals.{Family}
-use Rattle.lines.specs.Lines.{Line}
-use Rattle.rows.specs.Rows.{Held, held, fresh, cut_to}
+use Rattle.rows.specs.Rows.{Held, held, fresh}
 use Rattle.tables.specs.declared.table.Table.{Table}
 
 -- how many processes there are: a count above 8 means 8
@@ -34,7 +33,7 @@ pub record Changed (p : ℕ) (h : Held) (t u : Table) : Type 0 where
   pub here : row_of u p ≡ h
   pub others : (r : ℕ) → (r ≢ p) → row_of u r ≡ row_of t r
 
--- every process is cut to the line
-pub record Cut (L : Line) (t u : Table) : Type 0 where
+-- the row of each process is changed, and nothing else
+pub record Changes (change : ℕ → Held → Held) (t u : Table) : Type 0 where
   pub count : u.count ≡ t.count
-  pub rows : (p : ℕ) → p < processes t → row_of u p ≡ cut_to (L p) (row_of t p)
+  pub rows : (p : ℕ) → p < processes t → row_of u p ≡ change p (row_of t p)

@@ -2,5 +2,6 @@
 
 pub mod channel;
 pub mod line;
+mod lowering;
 pub mod table;
 mod vector;

@@ -9,7 +9,10 @@ use std::array;
 fn last_vector(xs: &[Interval]) -> [u8; 8]
     ensures { result ≡ vector_after xs.now }
 {
-    xs.last().map_or([0; 8], |x| x.vector)
+    match xs.last() {
+        Some(last) => last.vector,
+        None => [0; 8],
+    }
 }
 
 // Entry by entry the larger.

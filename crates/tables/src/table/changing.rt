@@ -1,10 +1,19 @@
 // How a table is made, and cut to a line.
+ghost use Rattle.std.specs.Prelude.{◌≡◌, ℕ};
+ghost use Rattle.rows.specs.Rows.{Held, held, cut_to};
 ghost use Rattle.tables.specs.Answers.{line_of};
-ghost use Rattle.tables.specs.Tables.{New, Cut};
+ghost use Rattle.tables.specs.Tables.{New, Changes};
 
 use crate::table::Table;
 use programs::values::State;
 use rows::row::Row;
+
+// To which interval a line sends a process back; 0 where the line has no entry.
+pub fn entry(line: &[u8; 8], process: u8) -> u8
+    ensures { result ≡ line_of line.now process }
+{
+    line.get(process as usize).copied().unwrap_or(0)
+}
 
 impl Table {
     // All processes are up, with no intervals and in this state.
@@ -17,14 +26,22 @@ impl Table {
         }
     }
 
-    // Every process is cut to its entry of the line.
-    pub fn cut(&mut self, line: &[u8; 8])
-        ensures { Cut (line_of line.now) self.old self.new }
+    // The row of each process is changed in its place, by its number.
+    pub fn change_rows<F: Fn(u8, &mut Row)>(&mut self, change: F)
+        requires { F.IsAlwaysCallable change }
+        ensures { (f : ℕ → Held → Held) → ((p : ℕ) (a b : _) → F.post change p a tt b → held b.now ≡ f p (held a.now)) → Changes f self.old self.new }
     {
-        let count = self.processes() as usize;
+        let count = self.processes();
         let rows = &mut self.rows;
         for p in 0..count {
-            rows[p].cut(line[p]);
+            change(p, &mut rows[p as usize]);
         }
+    }
+
+    // Every process is cut to its entry of the line.
+    pub fn cut(&mut self, line: &[u8; 8])
+        ensures { Changes (λ p. cut_to (line_of line.now p)) self.old self.new }
+    {
+        self.change_rows(|p, row| row.cut(entry(line, p)));
     }
 }

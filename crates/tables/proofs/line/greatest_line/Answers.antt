@@ -1,27 +1,27 @@
-use Rattle.std.proofs.Common.{arith}
-use Rattle.tables.specs.Answers.{line_of}
+use Rattle.std.proofs.Common.{sym, ◌∙◌, subst}
+use Rattle.tables.specs.Answers.{line_of, GreatestLine}
+use Rattle.tables.specs.Lowering.{Lower, Lowers}
 use Rattle.tables.specs.Tables.{processes, family}
-use Rattle.tables.proofs.Lowered.{lower_none, lower_again, rows_hold_lower, clipped_holds, known_none, answers}
+use Rattle.tables.specs.declared.table.Table.{Table}
+use Rattle.tables.proofs.Lowered.{lower_none, lower_again, answers}
 use Rattle.tables.proofs.line.greatest_line.Goals as goal
 
-pub loop-needs-init : goal.loop-needs-init
-loop-needs-init c =
-    let t = c.args.table.now in let xs = c.clip.new.line in (
-      lower_none (processes t) (family t) xs,
-      clipped_holds (processes t) (family t) (line_of c.args.counts.now) xs c.clip.ensures.value,
-      known_none (processes t) (family t) xs (omega arith) c.clip.ensures.few,
-    )
+pub loop-init : goal.loop-init
+loop-init c = let t = c.args.table.now in (c.new-lowering.ensures.table, lower_none (processes t) (family t) c.new-lowering.result.line)
 
-pub loop-needs-preserved : goal.loop-needs-preserved
-loop-needs-preserved c =
-    let t = c.args.table.now in let xs = c.clip.new.line in let ys = c.loop-needs.line in let zs = c.lower.new.line in
-    (lower_again (processes t) (family t) xs ys zs c.loop-needs.invariant.0 c.lower.ensures.lowers.lower, rows_hold_lower (processes t) (family t) ys zs c.loop-needs.invariant.1 c.lower.ensures.lowers.lower, c.lower.ensures.known)
+pub loop-preserved : goal.loop-preserved
+loop-preserved c =
+    let t = c.args.table.now in let xs = c.new-lowering.result.line in let ys = c.loop.lowering.line in let zs = c.lower.new.self.line in
+    let low : Lower (processes t) (family t) ys zs = subst (λ (u : Table). Lower (processes u) (family u) ys zs) c.loop.invariant.0 c.lower.ensures.lowers.lower in
+    (c.lower.ensures.table ∙ c.loop.invariant.0, lower_again (processes t) (family t) xs ys zs c.loop.invariant.1 low)
 
-pub loop-needs-smaller : goal.loop-needs-smaller
-loop-needs-smaller c = c.lower.ensures.lowers.less c.loop-needs-test.true
+pub loop-smaller : goal.loop-smaller
+loop-smaller c = c.lower.ensures.lowers.less c.loop-test.true
 
 pub returns : goal.returns
 returns c =
-    let t = c.args.table.now in let xs = c.clip.new.line in let ys = c.loop-needs.line in let zs = c.lower.new.line in
-    answers (processes t) (family t) (line_of c.args.counts.now) xs zs c.clip.ensures.value
-    (lower_again (processes t) (family t) xs ys zs c.loop-needs.invariant.0 c.lower.ensures.lowers.lower) (c.lower.ensures.lowers.stays c.loop-needs-test.false)
+    let t = c.args.table.now in let xs = c.new-lowering.result.line in let ys = c.loop.lowering.line in let zs = c.lower.new.self.line in
+    let last : Lowers (processes t) (family t) ys zs c.lower.result = subst (λ (u : Table). Lowers (processes u) (family u) ys zs c.lower.result) c.loop.invariant.0 c.lower.ensures.lowers in
+    subst (λ ws. GreatestLine (processes t) (family t) (line_of c.args.counts.now) (line_of ws)) (sym c.line.ensures)
+    (answers (processes t) (family t) (line_of c.args.counts.now) xs zs c.new-lowering.ensures.value
+    (lower_again (processes t) (family t) xs ys zs c.loop.invariant.1 last.lower) (last.stays c.loop-test.false))

@@ -1,13 +1,10 @@
-use Rattle.std.proofs.Common.{sum}
-use Rattle.tables.specs.Lowering.{RowsHold, Lower, Known}
+use Rattle.std.proofs.Common.{◌≡◌, sum}
+use Rattle.tables.specs.Lowering.{Lower}
 use Rattle.tables.specs.Tables.{processes, family}
 use Rattle.tables.proofs.line.greatest_line.Given as goal
 
-abbrev pub invariant-loop-needs : goal.invariant-loop-needs
-invariant-loop-needs l =
-    Lower (processes l.table) (family l.table) l.initial.line l.line
-    × RowsHold (processes l.table) (family l.table) l.line
-    × Known (processes l.table) (family l.table) l.line l.needs
+abbrev pub invariant-loop : goal.invariant-loop
+invariant-loop l = (l.lowering.table.now ≡ l.table) × Lower (processes l.table) (family l.table) l.initial.lowering.line l.lowering.line
 
-abbrev pub decreases-loop-needs : goal.decreases-loop-needs
-decreases-loop-needs l = sum l.line
+abbrev pub decreases-loop : goal.decreases-loop
+decreases-loop l = sum l.lowering.line
