@@ -1,7 +1,7 @@
 -- Every call keeps what holds.
 use Rattle.std.proofs.Common.{◌≡◌, ℕ, ◌+◌, ◌<◌, ◌≤◌, true, false, ltb, List, [], ◌∷◌, ◌++◌, length, take, drop, sym, refl, ap, ◌∙◌, subst, arith}
-use Rattle.std.specs.List.{All}
-use Rattle.std.proofs.lemmas.List.Elements.{All-drop}
+use Rattle.std.specs.List.{All, AllByRecursion}
+use Rattle.std.proofs.lemmas.List.Elements.{All-head, All-drop}
 use Rattle.std.proofs.lemmas.List.{drop-append-le}
 use Rattle.std.proofs.lemmas.Grind.{flat_map-append}
 use Rattle.std.proofs.lemmas.Bool.{not-false, ltb-false, leb-false, cond_both}
@@ -29,7 +29,7 @@ use Rattle.histories.proofs.Steps.{next_same, next_began, next_crashed, next_sav
 use Rattle.histories.proofs.Waking.{next_restart}
 
 -- the first test that holds refuses; else every test is false
-pub tested_each : (P : After → Type 0) (ts : List Test) (w : World) (next : After) → ((r : Refusal) → P (refused r, w)) → (All (λ t. t.0 ≡ false) ts → P next) → P (tested ts w next)
+pub tested_each : (P : After → Type 0) (ts : List Test) (w : World) (next : After) → ((r : Refusal) → P (refused r, w)) → (AllByRecursion (λ t. t.0 ≡ false) ts → P next) → P (tested ts w next)
 tested_each P [] w next stays goes = goes tt
 tested_each P ((true, r) ∷ ts) w next stays goes = stays r
 tested_each P ((false, r) ∷ ts) w next stays goes = tested_each P ts w next stays (λ all. goes (refl, all))
@@ -77,7 +77,7 @@ module _ (S R : Type 0) (M : Meaning) (N : ℕ) (few : N ≤ 8) (K : Line) {give
   sent_within q p m ms e =
       let from : From 0 (w.intervals q) = subst (From 0) (sym (front_is (w.intervals q) (F q) (h.rows.fronts q))) (from_take 0 (length (w.intervals q)) (F q) (h.family.indexed q)) in
       let all : All (λ (y : Message). y.sent_at ≤ 0 + length (w.intervals q)) (m ∷ ms) = subst (All (λ y. y.sent_at ≤ 0 + length (w.intervals q))) e (All-drop (λ y. y.sent_at ≤ 0 + length (w.intervals q)) (taken q (w.intervals p)) (channel p (w.intervals q)) (sent_early 0 p (w.intervals q) from)) in
-      omega (arith, all.0)
+      omega (arith, All-head (λ (y : Message). y.sent_at ≤ 0 + length (w.intervals q)) m ms all)
 
   delivery_built : (q p : ℕ) (m : Message) (ms : List Message) → q < N → w.up p ≡ true → waiting w.intervals q p ≡ m ∷ ms → S → R → Built M N given (at F p (F p ++ (by_delivery M N (w.state p) w.intervals q p m ∷ [])))
   delivery_built q p m ms sender up e played ran =
@@ -115,7 +115,7 @@ module _ (S R : Type 0) (M : Meaning) (N : ℕ) (few : N ≤ 8) (K : Line) {give
   AfterCall c a = Fed c a.0 given → Next S R M N given K F a.1
 
   -- refused, or every test is false
-  by_tests : (kept : ℕ) (c : Call) → (All (λ t. t.0 ≡ false) (tests N w c) → AfterCall c (effect M N kept w c)) → AfterCall c (rule M N kept w c)
+  by_tests : (kept : ℕ) (c : Call) → (AllByRecursion (λ t. t.0 ≡ false) (tests N w c) → AfterCall c (effect M N kept w c)) → AfterCall c (rule M N kept w c)
   by_tests kept c goes = tested_each (AfterCall c) (tests N w c) w (effect M N kept w c) (λ r f. stays) goes
 
   pub step : (kept : ℕ) → kept ≤ unsafe_count w.store → (c : Call) → AfterCall c (rule M N kept w c)

@@ -1,6 +1,7 @@
 -- What holds at the end of every history, and what lasts from one moment to a later one.
 use Rattle.std.proofs.Common.{◌≡◌, ℕ, ◌<◌, ◌≤◌, true, false, eqb, ltb, ◌⊎◌, List, [], ◌∷◌, ◌++◌, length, take, sym, refl, ap, ◌∙◌, subst, inl, inr, arith}
 use Rattle.std.specs.List.{All}
+use Rattle.std.proofs.lemmas.List.Elements.{All-nil}
 use Rattle.std.proofs.lemmas.List.{take_all, length-take, append_assoc}
 use Rattle.std.proofs.lemmas.Bool.{eq-eqb, and_from, or_left, or_right, or_cases, ltb-true, cond-true}
 use Rattle.programs.specs.Program.{Meaning, zeros}
@@ -12,7 +13,8 @@ use Rattle.histories.specs.Calls as calls
 use Rattle.histories.specs.Calls.{Call, Answer, accepted, refused}
 use Rattle.histories.specs.History.{Does, History, starts, goes_on, First}
 use Rattle.histories.specs.Ledger.{Event}
-use Rattle.histories.specs.Reading.{reading}
+use Rattle.records.specs.declared.Interval.{Interval}
+use Rattle.histories.specs.Reading.{reading, PlayedFront}
 use Rattle.histories.specs.Tests.{committed}
 use Rattle.histories.specs.Theorem.{fed, gave}
 use Rattle.histories.specs.World.{World}
@@ -82,7 +84,7 @@ module _ (S R : Type 0) (M : Meaning) (N : ℕ) (few : N ≤ 8) where
   -- a first world holds nothing
   pub first_holds : (w : World) → First M N w → Holds S R M N (gave []) (λ p. 0) w (λ p. [])
   first_holds w first = subst (λ v. Holds S R M N (gave []) (λ p. 0) v (λ p. [])) (sym first.1.3) (record {
-    family = record { short = λ p. omega arith; named = λ p. tt; indexed = λ p. tt; idle = λ p h. refl; consistent = λ p h. tt; built = λ s r. begins (λ p. refl) };
+    family = record { short = λ p. omega arith; named = λ p. All-nil (λ (x : Interval). x.process ≡ p); indexed = λ p. tt; idle = λ p h. refl; consistent = λ p h. All-nil (Backed N (λ p. 0)); built = λ s r. begins (λ p. refl) };
     rows = record {
       fronts = λ p. front_none [];
       whole = λ p u. refl;
@@ -97,7 +99,7 @@ module _ (S R : Type 0) (M : Meaning) (N : ℕ) (few : N ≤ 8) where
       safe = omega (arith, first.1.1);
       lives = λ a. first.1.1 ∙ sym (ap length first.1.0);
       remembered = λ k a b. subst (λ rs. Kept S M N (λ p. []) (λ p. 0) (reading (take k rs))) (sym first.1.0) (subst (λ rs. Kept S M N (λ p. []) (λ p. 0) (reading rs)) (sym (take_all k [] (omega arith)))
-          (record { fronts = λ p. front_none []; above = λ p h. omega arith; checks = λ v p. tt }));
+          (record { fronts = λ p. front_none []; above = λ p h. omega arith; checks = λ v p. All-nil (PlayedFront M p []) }));
     };
     standing = λ d. first.1.2;
     read = λ d p. ap (λ rs. (reading rs).rows p) first.1.0;

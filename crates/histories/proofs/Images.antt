@@ -1,6 +1,7 @@
 -- What each kind of record does to what is read.
 use Rattle.std.proofs.Common.{◌≡◌, ℕ, eqb, List, [], ◌∷◌, ◌++◌, map, fold, sym, refl, ap, ◌∙◌, subst}
 use Rattle.std.specs.List.{All}
+use Rattle.std.proofs.lemmas.List.Elements.{All-head, All-tail}
 use Rattle.std.proofs.lemmas.List.{append-nil, append_assoc}
 use Rattle.std.proofs.lemmas.List.Sums.{fold-append}
 use Rattle.std.proofs.lemmas.Bool.{eq-eqb, ne_eqb, cond-true, cond-false}
@@ -27,15 +28,15 @@ reading_append rs ss = fold-append (λ i r. noted i r.content) (record { rows = 
 pub rows_more : (i : Image) (p : ℕ) (xs : List Interval) → All (λ x. x.process ≡ p) xs → (reading_on i (map interval_record xs)).rows p ≡ i.rows p ++ xs
 rows_more i p [] named = sym (append-nil (i.rows p))
 rows_more i p (x ∷ xs) named =
-    rows_more (noted i (interval_record x).content) p xs named.1
-    ∙ ap (λ ys. ys ++ xs) (subst (λ q. at i.rows q (i.rows q ++ (x ∷ [])) p ≡ i.rows p ++ (x ∷ [])) (sym named.0) (at_same i.rows p (i.rows p ++ (x ∷ []))))
+    rows_more (noted i (interval_record x).content) p xs (All-tail (λ (y : Interval). y.process ≡ p) x xs named)
+    ∙ ap (λ ys. ys ++ xs) (subst (λ q. at i.rows q (i.rows q ++ (x ∷ [])) p ≡ i.rows p ++ (x ∷ [])) (sym (All-head (λ (y : Interval). y.process ≡ p) x xs named)) (at_same i.rows p (i.rows p ++ (x ∷ []))))
     ∙ append_assoc (i.rows p) (x ∷ []) xs
 
 pub rows_others : (i : Image) (p : ℕ) (xs : List Interval) → All (λ x. x.process ≡ p) xs → (r : ℕ) → (r ≡ p → ⊥) → (reading_on i (map interval_record xs)).rows r ≡ i.rows r
 rows_others i p [] named r n = refl
 rows_others i p (x ∷ xs) named r n =
-    rows_others (noted i (interval_record x).content) p xs named.1 r n
-    ∙ subst (λ q. at i.rows q (i.rows q ++ (x ∷ [])) r ≡ i.rows r) (sym named.0) (at_other i.rows p (i.rows p ++ (x ∷ [])) r n)
+    rows_others (noted i (interval_record x).content) p xs (All-tail (λ (y : Interval). y.process ≡ p) x xs named) r n
+    ∙ subst (λ q. at i.rows q (i.rows q ++ (x ∷ [])) r ≡ i.rows r) (sym (All-head (λ (y : Interval). y.process ≡ p) x xs named)) (at_other i.rows p (i.rows p ++ (x ∷ [])) r n)
 
 pub checkpoints_same : (i : Image) (xs : List Interval) (r : ℕ) → (reading_on i (map interval_record xs)).checkpoints r ≡ i.checkpoints r
 checkpoints_same i [] r = refl

@@ -1,6 +1,6 @@
 -- The ledger is what the host holds.
 use Rattle.std.proofs.Common.{◌≡◌, ℕ, ◌+◌, ◌-◌, ◌<◌, ◌≤◌, Bool, true, false, cond, ltb, ◌⊎◌, List, [], ◌∷◌, ◌++◌, map, length, take, Ok, Err, sym, refl, ap, ◌∙◌, subst, inl, inr, arith}
-use Rattle.std.specs.List.{All}
+use Rattle.std.specs.List.{AllByRecursion}
 use Rattle.std.proofs.lemmas.List.{append-nil, take_all, length-append, length-take, length-drop, length-map, length_push}
 use Rattle.std.proofs.lemmas.Bool.{cases_eq, not-false, ltb-false, cond-true}
 use Rattle.programs.specs.Program.{Meaning}
@@ -25,7 +25,7 @@ use Rattle.histories.proofs.Images.{at_same, at_other}
 use Rattle.histories.proofs.Writing.{Wrote, done, died, wrote}
 
 -- a test that holds answers one of the list's refusals
-pub tested_of : (P : After → Type 0) (ts : List Test) (w : World) (next : After) → All (λ t. P (refused t.1, w)) ts → (All (λ t. t.0 ≡ false) ts → P next) → P (tested ts w next)
+pub tested_of : (P : After → Type 0) (ts : List Test) (w : World) (next : After) → AllByRecursion (λ t. P (refused t.1, w)) ts → (AllByRecursion (λ t. t.0 ≡ false) ts → P next) → P (tested ts w next)
 tested_of P [] w next stays goes = goes tt
 tested_of P ((true, r) ∷ ts) w next stays goes = stays.0
 tested_of P ((false, r) ∷ ts) w next stays goes = tested_of P ts w next stays.1 (λ all. goes (refl, all))
@@ -181,7 +181,7 @@ module _ {S R : Type 0} (M : Meaning) (N : ℕ) (played : S) {given : Given} {K 
   has_room : (n : ℕ) → ltb (room w.store) n ≡ false → 0 < n → store.count w.store + n ≤ w.store.capacity
   has_room n e some = omega (arith, ltb-false (room w.store) n e)
 
-  by_tests : (c : Call) → All (λ t. Agree M N kept w c (refused t.1, w)) (tests N w c) → (All (λ t. t.0 ≡ false) (tests N w c) → Agree M N kept w c (effect M N kept w c)) → Agree M N kept w c (rule M N kept w c)
+  by_tests : (c : Call) → AllByRecursion (λ t. Agree M N kept w c (refused t.1, w)) (tests N w c) → (AllByRecursion (λ t. t.0 ≡ false) (tests N w c) → Agree M N kept w c (effect M N kept w c)) → Agree M N kept w c (rule M N kept w c)
   by_tests c stays goes = tested_of (Agree M N kept w c) (tests N w c) w (effect M N kept w c) stays goes
 
   pub agree : (c : Call) → Agree M N kept w c (rule M N kept w c)

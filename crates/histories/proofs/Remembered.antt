@@ -1,7 +1,7 @@
 -- What every reading of the store's records keeps, however many of them stand.
 use Rattle.std.proofs.Common.{◌≡◌, ℕ, ◌-◌, ◌<◌, ◌≤◌, Bool, true, false, cond, leb, ◌⊎◌, List, [], ◌∷◌, ◌++◌, map, length, get_or, take, filter, sym, refl, ap, ◌∙◌, subst, inl, inr, arith}
 use Rattle.std.specs.List.{All}
-use Rattle.std.proofs.lemmas.List.Elements.{All-weaker, All-push}
+use Rattle.std.proofs.lemmas.List.Elements.{All-nil, All-cons, All-head, All-tail, All-weaker, All-push}
 use Rattle.std.proofs.lemmas.List.{take-append-le, take-take, take_all, length-append, length-take}
 use Rattle.std.proofs.lemmas.Bool.{cases_eq, leb-true}
 use Rattle.programs.specs.Program.{Meaning}
@@ -74,15 +74,17 @@ module _ (S : Type 0) (M : Meaning) (N : ℕ) (F : Family) (K : Line) where
   }
     where
       cut : (p : ℕ) (cs : List Checkpoint) → All (PlayedFront M p (i.rows p)) cs → All (PlayedFront M p (take (get_or entries p 0) (i.rows p))) (filter (λ c. leb c.index (get_or entries p 0)) cs)
-      cut p [] all = tt
-      cut p (c ∷ cs) all = here (leb c.index (get_or entries p 0)) refl (cut p cs all.1)
+      cut p [] all = All-nil (PlayedFront M p (take (get_or entries p 0) (i.rows p)))
+      cut p (c ∷ cs) all = here (leb c.index (get_or entries p 0)) refl (cut p cs (All-tail (PlayedFront M p (i.rows p)) c cs all))
         where
           here : (b : Bool) → leb c.index (get_or entries p 0) ≡ b → All (PlayedFront M p (take (get_or entries p 0) (i.rows p))) (filter (λ c. leb c.index (get_or entries p 0)) cs) →
               All (PlayedFront M p (take (get_or entries p 0) (i.rows p))) (cond b (c ∷ filter (λ c. leb c.index (get_or entries p 0)) cs) (filter (λ c. leb c.index (get_or entries p 0)) cs))
           here false e rest = rest
           here true e rest =
               let low : c.index ≤ get_or entries p 0 = leb-true c.index (get_or entries p 0) e in
-              ((simp length-take (omega (arith, all.0.0)), all.0.1 ∙ ap (play M p) (sym (take-take c.index (get_or entries p 0) (i.rows p) low))), rest)
+              let first = All-head (PlayedFront M p (i.rows p)) c cs all in
+              All-cons (PlayedFront M p (take (get_or entries p 0) (i.rows p))) c (filter (λ c. leb c.index (get_or entries p 0)) cs)
+              (simp length-take (omega (arith, first.0)), first.1 ∙ ap (play M p) (sym (take-take c.index (get_or entries p 0) (i.rows p) low))) rest
 
   -- a write of which every first part keeps what is remembered
   pub remembered_write : (rs ws : List Record) (safe : ℕ) → length rs ≤ safe → ((j : ℕ) → Kept (reading (rs ++ take j ws))) → (j : ℕ) → Remembered (rs ++ take j ws) safe

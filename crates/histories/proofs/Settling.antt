@@ -2,7 +2,7 @@
 use Rattle.std.proofs.Common.{◌≡◌, ℕ, zero, suc, ◌+◌, ◌<◌, ◌≤◌, min, Bool, true, false, cond, ltb, leb, ◌⊎◌, List, [], ◌∷◌, ◌++◌, map, length, get_or, take, drop, fold, sym, refl, ap, ◌∙◌, subst, inl, inr, arith}
 use Rattle.std.specs.List.{range_with_len, All}
 use Rattle.std.proofs.lemmas.List.FromFn.{get_or-map-range_with_len}
-use Rattle.std.proofs.lemmas.List.Elements.{All-take}
+use Rattle.std.proofs.lemmas.List.Elements.{All-head, All-tail, All-take}
 use Rattle.std.proofs.lemmas.List.{append-nil, take-take, take_all, take-append-drop, length-take}
 use Rattle.std.proofs.lemmas.Bool.{cases_lt, ltb-true, ltb-false, leb-true, lt-ltb, cond-true, and_parts, or_parts}
 use Rattle.programs.specs.Program.{Meaning}
@@ -46,11 +46,11 @@ origin_good M p xs cs all = go (0, M.start p) (omega arith) refl cs all
     go : (best : ℕ × State) → best.0 ≤ length xs → best.1 ≡ play M p (take best.0 xs) → (cs : List Checkpoint) → All (PlayedFront M p xs) cs →
         ((fold (λ b c. cond (leb b.0 c.index) (c.index, c.state) b) best cs).0 ≤ length xs) × ((fold (λ b c. cond (leb b.0 c.index) (c.index, c.state) b) best cs).1 ≡ play M p (take (fold (λ b c. cond (leb b.0 c.index) (c.index, c.state) b) best cs).0 xs))
     go best low is [] all = (low, is)
-    go best low is (c ∷ cs) all = more (leb best.0 c.index) (λ b l e. go b l e cs all.1)
+    go best low is (c ∷ cs) all = more (leb best.0 c.index) (λ b l e. go b l e cs (All-tail (PlayedFront M p xs) c cs all))
       where
         more : (t : Bool) → ((b : ℕ × State) → b.0 ≤ length xs → b.1 ≡ play M p (take b.0 xs) → ((fold (λ b c. cond (leb b.0 c.index) (c.index, c.state) b) b cs).0 ≤ length xs) × ((fold (λ b c. cond (leb b.0 c.index) (c.index, c.state) b) b cs).1 ≡ play M p (take (fold (λ b c. cond (leb b.0 c.index) (c.index, c.state) b) b cs).0 xs))) →
             ((fold (λ b c. cond (leb b.0 c.index) (c.index, c.state) b) (cond t (c.index, c.state) best) cs).0 ≤ length xs) × ((fold (λ b c. cond (leb b.0 c.index) (c.index, c.state) b) (cond t (c.index, c.state) best) cs).1 ≡ play M p (take (fold (λ b c. cond (leb b.0 c.index) (c.index, c.state) b) (cond t (c.index, c.state) best) cs).0 xs))
-        more true next = next (c.index, c.state) all.0.0 all.0.1
+        more true next = let first = All-head (PlayedFront M p xs) c cs all in next (c.index, c.state) first.0 first.1
         more false next = next best low is
 
 below_line : (N : ℕ) (saved L : Line) → some_above N saved L ≡ false → (p : ℕ) → p < N → saved p ≤ L p

@@ -1,6 +1,6 @@
 -- What was shown is shown again; and the lines that recoveries answer.
 use Rattle.std.proofs.Common.{◌≡◌, ℕ, ◌-◌, ◌<◌, ◌≤◌, Bool, true, false, cond, eqb, ltb, List, [], ◌∷◌, ◌++◌, map, length, get_or, take, drop, Ok, Err, sym, refl, ap, ◌∙◌, arith}
-use Rattle.std.specs.List.{range_with_len, All}
+use Rattle.std.specs.List.{range_with_len, AllByRecursion}
 use Rattle.std.specs.Option.{option_to_list}
 use Rattle.std.proofs.lemmas.List.FromFn.{length-map-range_with_len}
 use Rattle.std.proofs.lemmas.List.{append_assoc, take-append-drop, take-take, take_at, get_or_append_left, length-append}
@@ -19,7 +19,7 @@ use Rattle.histories.specs.Tests.{Test, tests, committed, shown, left, some_abov
 use Rattle.histories.specs.World.{World, darkened}
 use Rattle.histories.proofs.Calls.{tested_each}
 
-pub tested_false : (ts : List Test) (w : World) (next : After) → All (λ t. t.0 ≡ false) ts → tested ts w next ≡ next
+pub tested_false : (ts : List Test) (w : World) (next : After) → AllByRecursion (λ t. t.0 ≡ false) ts → tested ts w next ≡ next
 tested_false [] w next all = refl
 tested_false ((true, r) ∷ ts) w next all = absurd (true≢false all.0)
 tested_false ((false, r) ∷ ts) w next all = tested_false ts w next all.1

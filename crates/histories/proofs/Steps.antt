@@ -230,7 +230,7 @@ module _ (S R : Type 0) (M : Meaning) (N : ℕ) (K : Line) where
     whole_kept = kept_whole S M N F K w.store.records w.store.safe h.stored.safe h.stored.remembered
 
     names : (j : ℕ) → All (λ x. x.process ≡ p) (take j (unsaved w p))
-    names j = All-take _ j (unsaved w p) (All-drop _ (w.saved p) (w.intervals p) (subst (All (λ x. x.process ≡ p)) (sym (h.rows.whole p up)) (h.family.named p)))
+    names j = All-take (λ (x : Interval). x.process ≡ p) j (unsaved w p) (All-drop (λ (x : Interval). x.process ≡ p) (w.saved p) (w.intervals p) (subst (All (λ x. x.process ≡ p)) (sym (h.rows.whole p up)) (h.family.named p)))
 
     -- the saved part of p's row, and some first part of the rest, begin it
     begins : (j : ℕ) → Front ((reading w.store.records).rows p ++ take j (unsaved w p)) (F p)
