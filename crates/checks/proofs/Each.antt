@@ -1,29 +1,36 @@
--- A test on each process, by the first that it holds of.
-use Rattle.std.proofs.Common.{◌≡◌, ℕ, zero, suc, ◌<◌, ◌≤◌, Bool, true, false, ltb, ◌⊎◌, refl, subst, inl, inr, arith}
-use Rattle.std.proofs.lemmas.Bool.{cases_lt, or_left, or_right, or_from, and_from, and_left, and_right, lt-ltb, le-ltb}
+-- A test on each process, by what a search through them answers.
+use Rattle.std.proofs.Common.{◌≡◌, ℕ, ◌<◌, ◌≤◌, Bool, true, false, List, length, get_or, refl, sym, ◌∙◌, subst, arith}
+use Rattle.std.specs.Bool.{MatchBool}
+use Rattle.std.specs.List.{AllWithin, HoldsAt, range_with_len}
+use Rattle.std.proofs.lemmas.List.FromFn.{get_or-range_with_len, length-range_with_len}
+use Rattle.std.proofs.lemmas.Bool.{true≢false}
 use Rattle.lines.specs.Lines.{Line}
 use Rattle.histories.specs.Tests.{some_above, all_up}
+use Rattle.histories.proofs.Each.{below_line, none_above, each_up, every_up}
 
-pub above_at : (N : ℕ) (saved L : Line) (p : ℕ) → p < N → L p < saved p → some_above N saved L ≡ true
-above_at zero saved L p h above = absurd (omega arith)
-above_at (suc N) saved L p h above = go (λ k. above_at N saved L p k above) (cases_lt p N)
+-- the first N processes
+abbrev firsts : ℕ → List ℕ
+firsts N = range_with_len 0 N
+
+nth_first : (N k : ℕ) → k < N → get_or (firsts N) k 0 ≡ k
+nth_first N k h = get_or-range_with_len 0 N k 0 h ∙ omega arith
+
+pub all_up_is : (N : ℕ) (up : ℕ → Bool) (b : Bool) →
+    MatchBool b (AllWithin (λ p. up p ≡ true) (firsts N) 0 (length (firsts N))) ((k : ℕ) × (k < length (firsts N)) × HoldsAt (λ p. up p ≡ false) (firsts N) k) → b ≡ all_up N up
+all_up_is N up true each = sym (every_up N up (λ p h. subst (λ q. up q ≡ true) (nth_first N p h) (each p 0 (omega arith) (omega (arith, length-range_with_len 0 N)))))
+all_up_is N up false one = go (all_up N up) refl
   where
-    go : (p < N → some_above N saved L ≡ true) → (p < N) ⊎ (N ≤ p) → some_above (suc N) saved L ≡ true
-    go before (inl k) = or_left (some_above N saved L) (ltb (L N) (saved N)) (before k)
-    go before (inr k) = let same : p ≡ N = omega arith in or_right (some_above N saved L) (ltb (L N) (saved N)) (subst (λ r. ltb (L r) (saved r) ≡ true) same (lt-ltb (L p) (saved p) above))
+    there : one.0 < N
+    there = omega (arith, one.1, length-range_with_len 0 N)
 
-pub none_above : (N : ℕ) (saved L : Line) → ((p : ℕ) → p < N → saved p ≤ L p) → some_above N saved L ≡ false
-none_above zero saved L below = refl
-none_above (suc N) saved L below = or_from (some_above N saved L) (ltb (L N) (saved N)) (none_above N saved L (λ p h. below p (omega arith))) (le-ltb (L N) (saved N) (below N (omega arith)))
+    go : (s : Bool) → all_up N up ≡ s → false ≡ s
+    go false e = refl
+    go true e = absurd (true≢false (sym (each_up N up e one.0 there) ∙ subst (λ q. up q ≡ false) (nth_first N one.0 there) (one.2 0)))
 
-pub one_down : (N : ℕ) (up : ℕ → Bool) (p : ℕ) → p < N → up p ≡ false → all_up N up ≡ false
-one_down zero up p h down = absurd (omega arith)
-one_down (suc N) up p h down = go (λ k. one_down N up p k down) (cases_lt p N)
+pub some_above_is : (N : ℕ) (saved L : Line) (b : Bool) → (b ≡ false → (p : ℕ) → p < N → saved p ≤ L p) → (((p : ℕ) → p < N → saved p ≤ L p) → b ≡ false) → b ≡ some_above N saved L
+some_above_is N saved L false below none = sym (none_above N saved L (below refl))
+some_above_is N saved L true below none = go (some_above N saved L) refl
   where
-    go : (p < N → all_up N up ≡ false) → (p < N) ⊎ (N ≤ p) → all_up (suc N) up ≡ false
-    go before (inl k) = and_left (all_up N up) (up N) (before k)
-    go before (inr k) = let same : p ≡ N = omega arith in and_right (all_up N up) (up N) (subst (λ r. up r ≡ false) same down)
-
-pub every_up : (N : ℕ) (up : ℕ → Bool) → ((p : ℕ) → p < N → up p ≡ true) → all_up N up ≡ true
-every_up zero up each = refl
-every_up (suc N) up each = and_from (all_up N up) (up N) (every_up N up (λ p h. each p (omega arith))) (each N (omega arith))
+    go : (s : Bool) → some_above N saved L ≡ s → true ≡ s
+    go true e = refl
+    go false e = absurd (true≢false (none (below_line N saved L e)))

@@ -1,6 +1,6 @@
 -- What a list of tests makes of a call, by the first that holds or by none.
 use Rattle.std.proofs.Common.{◌≡◌, false, List, [], ◌∷◌, refl, ap, ◌∙◌, inl, inr}
-use Rattle.std.specs.List.{All}
+use Rattle.std.specs.List.{AllByRecursion}
 use Rattle.histories.specs.Calls as calls
 use Rattle.histories.specs.Calls.{refused}
 use Rattle.histories.specs.Effects.{After}
@@ -10,7 +10,7 @@ use Rattle.histories.specs.World.{World}
 use Rattle.checks.specs.Checks.{First}
 
 module _ (w : World) (next : After) where
-  pub passes : (ts : List Test) → All (λ t. t.0 ≡ false) ts → tested ts w next ≡ next
+  pub passes : (ts : List Test) → AllByRecursion (λ t. t.0 ≡ false) ts → tested ts w next ≡ next
   passes [] all = refl
   passes (t ∷ ts) all = ap (λ b. tested ((b, t.1) ∷ ts) w next) all.0 ∙ passes ts all.1
 

@@ -1,6 +1,6 @@
 -- What a check of a call answers: the first of its tests that holds, or that none does.
 use Rattle.std.specs.Prelude.{◌≡◌, true, false, ◌⊎◌, List, [], ◌∷◌, Ok, Err, Result}
-use Rattle.std.specs.List.{All}
+use Rattle.std.specs.List.{AllByRecursion}
 use Rattle.histories.specs.Calls as calls
 use Rattle.histories.specs.Tests.{Test}
 use Rattle.checks.specs.Refusals.{refusal}
@@ -13,5 +13,5 @@ First (t ∷ ts) r = ((t.0 ≡ true) × (t.1 ≡ r)) ⊎ ((t.0 ≡ false) × Fir
 
 -- let through, with an x of which Q holds, exactly where no test holds
 abbrev pub Checked : {T : Type 0} → List Test → (T → Type 0) → Result T Refusal → Type 0
-Checked ts Q (Ok x) = All (λ t. t.0 ≡ false) ts × Q x
+Checked ts Q (Ok x) = AllByRecursion (λ t. t.0 ≡ false) ts × Q x
 Checked ts Q (Err e) = First ts (refusal e)

@@ -5,65 +5,67 @@ ghost use Rattle.tables.specs.Answers.{line_of};
 ghost use Rattle.tables.specs.Tables.{processes, family, row_of};
 ghost use Rattle.histories.specs.Tests.{some_above, line_records, all_up};
 
-use crate::reading::{is_up, left_counts, saved, saved_counts};
+use crate::state::HostState;
+use std::array;
+use tables::entries::entry;
 use tables::line::greatest_line;
-use tables::table::Table;
 
-// The greatest line within the counts.
-fn greatest_within(table: &Table, counts: &[u8; 8]) -> [u8; 8]
-    ensures { (p : ℕ) → line_of result p ≡ greatest_line (processes table.now) (family table.now) (line_of counts.now) p }
-{
-    let mut line = [0; 8];
-    greatest_line(table, counts, &mut line);
-    line
-}
+impl HostState {
+    // By process, how many of its intervals are saved.
+    fn saved_counts(&self) -> [u8; 8]
+        ensures { (p : ℕ) → line_of result p ≡ (row_of self.now.table p).saved }
+    {
+        array::from_fn(|p| self.table.saved(p as u8))
+    }
 
-// The committed line: the greatest within the saved counts.
-pub fn committed_line(table: &Table) -> [u8; 8]
-    ensures { (p : ℕ) → line_of result p ≡ greatest_line (processes table.now) (family table.now) (λ q. (row_of table.now q).saved) p }
-{
-    greatest_within(table, &saved_counts(table))
-}
-
-// The line of a recovery: the greatest within what is left.
-pub fn recovery_line(table: &Table) -> [u8; 8]
-    ensures { (p : ℕ) → line_of result p ≡ greatest_line (processes table.now) (family table.now) (λ q. (if (row_of table.now q).up then length (row_of table.now q).intervals else (row_of table.now q).saved)) p }
-{
-    greatest_within(table, &left_counts(table))
-}
-
-fn any_above(table: &Table, line: &[u8; 8]) -> bool
-    ensures { result ≡ some_above (processes table.now) (λ p. (row_of table.now p).saved) (line_of line.now) }
-{
-    for p in 0..table.processes() {
-        if line[p as usize] < saved(table, p) {
-            return true;
+    // What a recovery may go back to: the saved count of a down process, the number of intervals of an up one.
+    fn left(&self, process: u8) -> u8
+        ensures { result ≡ (if (row_of self.now.table process).up then length (row_of self.now.table process).intervals else (row_of self.now.table process).saved) }
+    {
+        if self.table.is_up(process) {
+            self.table.intervals(process).len() as u8
+        } else {
+            self.table.saved(process)
         }
     }
-    false
-}
 
-// Whether some saved count is above the line, so that it has to be recorded.
-pub fn is_above(table: &Table, line: &[u8; 8]) -> bool
-    ensures { result ≡ some_above (processes table.now) (λ p. (row_of table.now p).saved) (line_of line.now) }
-{
-    any_above(table, line)
-}
-
-// How many records a recovery to the line appends.
-pub fn line_records(table: &Table, line: &[u8; 8]) -> u64
-    ensures { result ≡ line_records (processes table.now) (λ p. (row_of table.now p).saved) (line_of line.now) }
-{
-    if is_above(table, line) { 1 } else { 0 }
-}
-
-pub(crate) fn are_all_up(table: &Table) -> bool
-    ensures { result ≡ all_up (processes table.now) (λ p. (row_of table.now p).up) }
-{
-    for p in 0..table.processes() {
-        if !is_up(table, p) {
-            return false;
-        }
+    fn left_counts(&self) -> [u8; 8]
+        ensures { (p : ℕ) → line_of result p ≡ (if (row_of self.now.table p).up then length (row_of self.now.table p).intervals else (row_of self.now.table p).saved) }
+    {
+        array::from_fn(|p| self.left(p as u8))
     }
-    true
+
+    // The committed line: the greatest within the saved counts.
+    pub fn committed_line(&self) -> [u8; 8]
+        ensures { (p : ℕ) → line_of result p ≡ greatest_line (processes self.now.table) (family self.now.table) (λ q. (row_of self.now.table q).saved) p }
+    {
+        greatest_line(&self.table, &self.saved_counts())
+    }
+
+    // The line of a recovery: the greatest within what is left.
+    pub fn recovery_line(&self) -> [u8; 8]
+        ensures { (p : ℕ) → line_of result p ≡ greatest_line (processes self.now.table) (family self.now.table) (λ q. (if (row_of self.now.table q).up then length (row_of self.now.table q).intervals else (row_of self.now.table q).saved)) p }
+    {
+        greatest_line(&self.table, &self.left_counts())
+    }
+
+    // Whether some saved count is above the line, so that it has to be recorded.
+    pub fn is_above(&self, line: &[u8; 8]) -> bool
+        ensures { result ≡ some_above (processes self.now.table) (λ p. (row_of self.now.table p).saved) (line_of line.now) }
+    {
+        (0..self.table.processes()).any(|p| entry(line, p) < self.table.saved(p))
+    }
+
+    // How many records a recovery to the line appends.
+    pub fn line_records(&self, line: &[u8; 8]) -> u64
+        ensures { result ≡ line_records (processes self.now.table) (λ p. (row_of self.now.table p).saved) (line_of line.now) }
+    {
+        u64::from(self.is_above(line))
+    }
+
+    pub(crate) fn are_all_up(&self) -> bool
+        ensures { result ≡ all_up (processes self.now.table) (λ p. (row_of self.now.table p).up) }
+    {
+        (0..self.table.processes()).all(|p| self.table.is_up(p))
+    }
 }

@@ -3,6 +3,6 @@
 
 pub mod calls;
 pub mod host_lines;
-pub mod reading;
 pub mod refusal;
 mod single;
+pub mod state;

@@ -8,20 +8,9 @@ ghost use Rattle.histories.specs.Calls.{by_host};
 ghost use Rattle.histories.specs.Tests.{absent, no_number, too_large};
 ghost use Rattle.checks.specs.Checks.{Checked};
 
-use crate::reading::is_up;
 use crate::refusal::Refusal;
+use crate::state::HostState;
 use tables::channel::Waiting;
-use tables::table::Table;
-
-// The process with this number, an argument at this position.
-pub(crate) fn existing(table: &Table, process: u64, position: u8) -> Result<u8, Refusal>
-    ensures { Checked (absent (processes table.now) process position ∷ []) (λ p. p ≡ process) result }
-{
-    if process >= table.processes() as u64 {
-        return Err(Refusal::NoProcess(position));
-    }
-    Ok(process as u8)
-}
 
 // The number of an input or an output: 1 to 96.
 pub(crate) fn numbered(n: u64, position: u8) -> Result<(), Refusal>
@@ -43,43 +32,54 @@ pub(crate) fn limited(k: u64, position: u8) -> Result<(), Refusal>
     Ok(())
 }
 
-// The host is not dark.
-pub(crate) fn awake(dark: bool) -> Result<(), Refusal>
-    ensures { Checked ((dark, by_host 10 0) ∷ []) (λ _. Unit {0}) result }
-{
-    if dark {
-        return Err(Refusal::Dark);
+impl HostState {
+    // The process with this number, an argument at this position.
+    pub(crate) fn existing(&self, process: u64, position: u8) -> Result<u8, Refusal>
+        ensures { Checked (absent (processes self.now.table) process position ∷ []) (λ p. p ≡ process) result }
+    {
+        if process >= self.table.processes() as u64 {
+            return Err(Refusal::NoProcess(position));
+        }
+        Ok(process as u8)
     }
-    Ok(())
-}
 
-// The host is not dark, and the process is up.
-pub(crate) fn standing(table: &Table, dark: bool, process: u8) -> Result<(), Refusal>
-    ensures { Checked ((dark, by_host 10 0) ∷ (not (row_of table.now process).up, by_host 12 0) ∷ []) (λ _. Unit {0}) result }
-{
-    awake(dark)?;
-    if !is_up(table, process) {
-        return Err(Refusal::Down);
+    // The host is not dark.
+    pub(crate) fn awake(&self) -> Result<(), Refusal>
+        ensures { Checked ((self.now.dark, by_host 10 0) ∷ []) (λ _. Unit {0}) result }
+    {
+        if self.dark {
+            return Err(Refusal::Dark);
+        }
+        Ok(())
     }
-    Ok(())
-}
 
-// The next message that waits from `source` to `target`.
-pub(crate) fn first_waiting(table: &Table, source: u8, target: u8) -> Result<Waiting, Refusal>
-    ensures { Checked (((length (waiting (family table.now) source target) == 0), by_host 16 0) ∷ []) (λ m. slice_get (waiting (family table.now) source target) 0 ≡ Some (as_message m)) result }
-{
-    match table.next_waiting(source, target) {
-        Some(message) => Ok(message),
-        None => Err(Refusal::NoneWaits),
+    // The host is not dark, and the process is up.
+    pub(crate) fn standing(&self, process: u8) -> Result<(), Refusal>
+        ensures { Checked ((self.now.dark, by_host 10 0) ∷ (not (row_of self.now.table process).up, by_host 12 0) ∷ []) (λ _. Unit {0}) result }
+    {
+        self.awake()?;
+        if !self.table.is_up(process) {
+            return Err(Refusal::Down);
+        }
+        Ok(())
     }
-}
 
-// The process has a place for one interval more.
-pub(crate) fn unfilled(table: &Table, process: u8) -> Result<(), Refusal>
-    ensures { Checked ((nat_le 96 (length (family table.now process)), by_host 17 0) ∷ []) (λ _. Unit {0}) result }
-{
-    if table.intervals(process).len() >= 96 {
-        return Err(Refusal::RowFull);
+    // The next message that waits from `source` to `target`.
+    pub(crate) fn first_waiting(&self, source: u8, target: u8) -> Result<Waiting, Refusal>
+        ensures { Checked (((length (waiting (family self.now.table) source target) == 0), by_host 16 0) ∷ []) (λ m. slice_get (waiting (family self.now.table) source target) 0 ≡ Some (as_message m)) result }
+    {
+        self.table
+            .next_waiting(source, target)
+            .ok_or(Refusal::NoneWaits)
     }
-    Ok(())
+
+    // The process has a place for one interval more.
+    pub(crate) fn unfilled(&self, process: u8) -> Result<(), Refusal>
+        ensures { Checked ((nat_le 96 (length (family self.now.table process)), by_host 17 0) ∷ []) (λ _. Unit {0}) result }
+    {
+        if self.table.intervals(process).len() >= 96 {
+            return Err(Refusal::RowFull);
+        }
+        Ok(())
+    }
 }

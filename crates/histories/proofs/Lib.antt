@@ -1,3 +1,4 @@
+pub mod Each
 mod Writing
 mod Images
 mod Fronts

@@ -4,7 +4,7 @@ use Rattle.std.specs.List.{range_with_len, All}
 use Rattle.std.proofs.lemmas.List.FromFn.{get_or-map-range_with_len}
 use Rattle.std.proofs.lemmas.List.Elements.{All-head, All-tail, All-take}
 use Rattle.std.proofs.lemmas.List.{append-nil, take-take, take_all, take-append-drop, length-take}
-use Rattle.std.proofs.lemmas.Bool.{cases_lt, ltb-true, ltb-false, leb-true, lt-ltb, cond-true, and_parts, or_parts}
+use Rattle.std.proofs.lemmas.Bool.{cases_lt, ltb-true, ltb-false, leb-true, lt-ltb, cond-true, and_parts}
 use Rattle.programs.specs.Program.{Meaning}
 use Rattle.programs.specs.declared.values.State.{State}
 use Rattle.records.specs.declared.Checkpoint.{Checkpoint}
@@ -22,6 +22,7 @@ use Rattle.histories.specs.Effects.{line_record, finished, written, untouched, r
 use Rattle.histories.specs.Reading.{Image, noted, reading, origin, PlayedFront}
 use Rattle.histories.specs.Tests.{some_above, line_records}
 use Rattle.histories.specs.World.{World}
+use Rattle.histories.proofs.Each.{below_line}
 use Rattle.histories.proofs.Fronts.{Front, front_self, front_none, front_take, front_cut}
 use Rattle.histories.proofs.Holds.{FamilyHolds, Lasts, Next}
 use Rattle.histories.proofs.Images.{reading_append}
@@ -52,17 +53,6 @@ origin_good M p xs cs all = go (0, M.start p) (omega arith) refl cs all
             ((fold (λ b c. cond (leb b.0 c.index) (c.index, c.state) b) (cond t (c.index, c.state) best) cs).0 ≤ length xs) × ((fold (λ b c. cond (leb b.0 c.index) (c.index, c.state) b) (cond t (c.index, c.state) best) cs).1 ≡ play M p (take (fold (λ b c. cond (leb b.0 c.index) (c.index, c.state) b) (cond t (c.index, c.state) best) cs).0 xs))
         more true next = let first = All-head (PlayedFront M p xs) c cs all in next (c.index, c.state) first.0 first.1
         more false next = next best low is
-
-below_line : (N : ℕ) (saved L : Line) → some_above N saved L ≡ false → (p : ℕ) → p < N → saved p ≤ L p
-below_line zero saved L e p h = absurd (omega arith)
-below_line (suc N) saved L e p h = go (λ k. below_line N saved L both.0 p k) (cases_lt p N)
-  where
-    both : (some_above N saved L ≡ false) × (ltb (L N) (saved N) ≡ false)
-    both = or_parts (some_above N saved L) (ltb (L N) (saved N)) e
-
-    go : (p < N → saved p ≤ L p) → (p < N) ⊎ (N ≤ p) → saved p ≤ L p
-    go before (inl k) = before k
-    go before (inr k) = let same : p ≡ N = omega arith in subst (λ r. saved r ≤ L r) (sym same) (ltb-false (L N) (saved N) both.1)
 
 -- a host that can settle: its store lives and is read, and the counts reach from what is saved
 pub record Ready (S R : Type 0) (M : Meaning) (N : ℕ) (given : Given) (K : Line) (F : Family) (w : World) (c : Line) : Type 0 where

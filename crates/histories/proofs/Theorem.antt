@@ -1,9 +1,9 @@
 -- The theorem on every history.
-use Rattle.std.proofs.Common.{◌≡◌, ℕ, zero, suc, ◌+◌, ◌-◌, ◌<◌, ◌≤◌, Bool, true, false, eqb, ltb, ◌⊎◌, List, [], ◌∷◌, ◌++◌, map, length, get_or, take, drop, fold, sym, refl, ap, ◌∙◌, subst, inl, inr, arith}
+use Rattle.std.proofs.Common.{◌≡◌, ℕ, ◌+◌, ◌-◌, ◌<◌, ◌≤◌, true, false, eqb, ltb, ◌⊎◌, List, [], ◌∷◌, ◌++◌, map, length, get_or, take, drop, fold, sym, refl, ap, ◌∙◌, subst, inl, inr, arith}
 use Rattle.std.specs.List.{range_with_len}
 use Rattle.std.proofs.lemmas.List.{take-append-drop, get_or_append_left}
 use Rattle.std.proofs.lemmas.List.Sums.{fold_push}
-use Rattle.std.proofs.lemmas.Bool.{cases_lt, and_parts, or_parts, eqb-false, ltb-false}
+use Rattle.std.proofs.lemmas.Bool.{cases_lt, or_parts, eqb-false, ltb-false}
 use Rattle.programs.specs.Program.{Meaning}
 use Rattle.runs.specs.Run.{Move}
 use Rattle.records.specs.declared.Interval.{Interval}
@@ -24,6 +24,7 @@ use Rattle.histories.specs.Rules.{effect, rule}
 use Rattle.histories.specs.Tests.{tests, committed, shown, left, all_up}
 use Rattle.histories.specs.Theorem.{gave, entered, AnswersGreatest, Lasting, EveryHistory}
 use Rattle.histories.specs.World.{World}
+use Rattle.histories.proofs.Each.{each_up}
 use Rattle.histories.proofs.Calls.{tested_each}
 use Rattle.histories.proofs.Fronts.{front_is}
 use Rattle.histories.proofs.Histories.{first_holds, follow_all, lasts_on}
@@ -34,14 +35,6 @@ use Rattle.histories.proofs.Shown.{not_refused, same_numbers, outputs_append, sh
 from_counting : (n : ℕ) (xs : List Interval) → From n xs → map (λ x. x.index) xs ≡ range_with_len (n + 1) (length xs)
 from_counting n [] h = refl
 from_counting n (x ∷ xs) h = ap (λ k. k ∷ map (λ (y : Interval). y.index) xs) h.0 ∙ ap (λ l. (n + 1) ∷ l) (from_counting (n + 1) xs h.1)
-
-each_up : (N : ℕ) (up : ℕ → Bool) → all_up N up ≡ true → (p : ℕ) → p < N → up p ≡ true
-each_up zero up e p h = absurd (omega arith)
-each_up (suc N) up e p h = go (λ k. each_up N up (and_parts (all_up N up) (up N) e).0 p k) (cases_lt p N)
-  where
-    go : (p < N → up p ≡ true) → (p < N) ⊎ (N ≤ p) → up p ≡ true
-    go before (inl k) = before k
-    go before (inr k) = let same : p ≡ N = omega arith in subst (λ r. up r ≡ true) (sym same) (and_parts (all_up N up) (up N) e).1
 
 -- greatest, on the host's own intervals: of every world, whatever its records and states are
 module _ (M : Meaning) (N : ℕ) (w : World) where

@@ -1,5 +1,6 @@
 -- The highest checkpoint, index by index.
 use Rattle.std.proofs.Common.{◌≡◌, ℕ, ◌+◌, ◌<◌, ◌≤◌, cond, eqb, ltb, leb, ◌⊎◌, List, [], ◌∷◌, get_or, Some, None, fold, filter, Option, sym, refl, ap, ◌∙◌, inl, inr, arith}
+use Rattle.std.specs.Option.{option_or}
 use Rattle.std.proofs.lemmas.Bool.{cases_lt, cases_order, cond-true, cond-false, cond_both, lt-ltb, le-ltb, le-leb, lt-leb, eq-eqb, ne_eqb}
 use Rattle.recall.specs.Standing.{Holds, last_of, last_at, higher, highest}
 use Rattle.recall.specs.declared.checkpoint.Found.{Found}
@@ -11,11 +12,6 @@ below n cs = filter (λ f. ltb f.index n) cs
 abbrev pub best_below : ℕ → List Found → Option Found
 best_below n cs = fold higher None (below n cs)
 
--- the first of two if there is one
-abbrev pub either : Option Found → Option Found → Option Found
-either None b = b
-either (Some a) b = Some a
-
 abbrev At : ℕ → Option Found → Type 0
 At n None = Unit {0}
 At n (Some f) = f.index ≡ n
@@ -26,13 +22,13 @@ Below n (Some f) = f.index < n
 
 module _ (n : ℕ) (f : Found) where
   -- nothing is above n, so that one at n takes its place
-  takes : f.index ≡ n → (a b : Option Found) → At n a → Below n b → higher (either a b) f ≡ Some f
+  takes : f.index ≡ n → (a b : Option Found) → At n a → Below n b → higher (option_or a b) f ≡ Some f
   takes e None None s t = refl
   takes e None (Some b) s t = cond-true (leb b.index f.index) (Some f) (Some b) (le-leb b.index f.index (omega arith))
   takes e (Some a) b s t = cond-true (leb a.index f.index) (Some f) (Some a) (le-leb a.index f.index (omega arith))
 
   -- one below n does not take the place of one at n
-  leaves : f.index < n → (a b : Option Found) → At n a → higher (either a b) f ≡ either a (higher b f)
+  leaves : f.index < n → (a b : Option Found) → At n a → higher (option_or a b) f ≡ option_or a (higher b f)
   leaves h None b s = refl
   leaves h (Some a) b s = cond-false (leb a.index f.index) (Some f) (Some a) (lt-leb a.index f.index (omega arith))
 
@@ -52,41 +48,41 @@ module _ (n : ℕ) (f : Found) where
   not_last : (a : Option Found) → (n ≡ f.index → ⊥) → last_of n a f ≡ a
   not_last a d = cond-false (eqb n f.index) (Some f) a (ne_eqb n f.index d)
 
-joins : (n : ℕ) (a b : Option Found) (cs : List Found) → At n a → Below n b → fold higher (either a b) (below (n + 1) cs) ≡ either (fold (last_of n) a cs) (fold higher b (below n cs))
+joins : (n : ℕ) (a b : Option Found) (cs : List Found) → At n a → Below n b → fold higher (option_or a b) (below (n + 1) cs) ≡ option_or (fold (last_of n) a cs) (fold higher b (below n cs))
 joins n a b [] s t = refl
 joins n a b (f ∷ cs) s t = go (λ x y. joins n x y cs) (cases_order f.index n)
   where
-    go : ((x y : Option Found) → At n x → Below n y → fold higher (either x y) (below (n + 1) cs) ≡ either (fold (last_of n) x cs) (fold higher y (below n cs))) → (f.index ≡ n) ⊎ ((f.index < n) ⊎ (n < f.index)) → fold higher (either a b) (below (n + 1) (f ∷ cs)) ≡ either (fold (last_of n) (last_of n a f) cs) (fold higher b (below n (f ∷ cs)))
+    go : ((x y : Option Found) → At n x → Below n y → fold higher (option_or x y) (below (n + 1) cs) ≡ option_or (fold (last_of n) x cs) (fold higher y (below n cs))) → (f.index ≡ n) ⊎ ((f.index < n) ⊎ (n < f.index)) → fold higher (option_or a b) (below (n + 1) (f ∷ cs)) ≡ option_or (fold (last_of n) (last_of n a f) cs) (fold higher b (below n (f ∷ cs)))
     go more (inl e) =
-        ap (fold higher (either a b)) (kept (n + 1) f cs (omega arith))
+        ap (fold higher (option_or a b)) (kept (n + 1) f cs (omega arith))
         ∙ ap (λ o. fold higher o (below (n + 1) cs)) (takes n f e a b s t)
         ∙ more (Some f) b e t
-        ∙ ap (λ l. either (fold (last_of n) l cs) (fold higher b (below n cs))) (sym (is_last n f a e))
-        ∙ ap (λ fs. either (fold (last_of n) (last_of n a f) cs) (fold higher b fs)) (sym (passed n f cs (omega arith)))
+        ∙ ap (λ l. option_or (fold (last_of n) l cs) (fold higher b (below n cs))) (sym (is_last n f a e))
+        ∙ ap (λ fs. option_or (fold (last_of n) (last_of n a f) cs) (fold higher b fs)) (sym (passed n f cs (omega arith)))
     go more (inr (inl h)) =
-        ap (fold higher (either a b)) (kept (n + 1) f cs (omega arith))
+        ap (fold higher (option_or a b)) (kept (n + 1) f cs (omega arith))
         ∙ ap (λ o. fold higher o (below (n + 1) cs)) (leaves n f h a b s)
         ∙ more a (higher b f) s (stays_below n f h b t)
-        ∙ ap (λ l. either (fold (last_of n) l cs) (fold higher (higher b f) (below n cs))) (sym (not_last n f a (λ d. omega arith)))
-        ∙ ap (λ fs. either (fold (last_of n) (last_of n a f) cs) (fold higher b fs)) (sym (kept n f cs h))
+        ∙ ap (λ l. option_or (fold (last_of n) l cs) (fold higher (higher b f) (below n cs))) (sym (not_last n f a (λ d. omega arith)))
+        ∙ ap (λ fs. option_or (fold (last_of n) (last_of n a f) cs) (fold higher b fs)) (sym (kept n f cs h))
     go more (inr (inr h)) =
-        ap (fold higher (either a b)) (passed (n + 1) f cs (omega arith))
+        ap (fold higher (option_or a b)) (passed (n + 1) f cs (omega arith))
         ∙ more a b s t
-        ∙ ap (λ l. either (fold (last_of n) l cs) (fold higher b (below n cs))) (sym (not_last n f a (λ d. omega arith)))
-        ∙ ap (λ fs. either (fold (last_of n) (last_of n a f) cs) (fold higher b fs)) (sym (passed n f cs (omega arith)))
+        ∙ ap (λ l. option_or (fold (last_of n) l cs) (fold higher b (below n cs))) (sym (not_last n f a (λ d. omega arith)))
+        ∙ ap (λ fs. option_or (fold (last_of n) (last_of n a f) cs) (fold higher b fs)) (sym (passed n f cs (omega arith)))
 
 pub best_none : (cs : List Found) → best_below 0 cs ≡ None
 best_none [] = refl
 best_none (f ∷ cs) = ap (fold higher None) (passed 0 f cs (omega arith)) ∙ best_none cs
 
 -- the last of index n, if there is one, is higher than all below
-pub best_more : (n : ℕ) (cs : List Found) → best_below (n + 1) cs ≡ either (last_at n cs) (best_below n cs)
+pub best_more : (n : ℕ) (cs : List Found) → best_below (n + 1) cs ≡ option_or (last_at n cs) (best_below n cs)
 best_more n cs = joins n None None cs tt tt
 
 -- a turn of the loop over the slots
-pub best_turn : (cs : List Found) (slots : List (Option Found)) (n : ℕ) (best new : Option Found) → n < 256 → Holds cs slots → best ≡ best_below n cs → new ≡ either (get_or slots n None) best → new ≡ best_below (n + 1) cs
+pub best_turn : (cs : List Found) (slots : List (Option Found)) (n : ℕ) (best new : Option Found) → n < 256 → Holds cs slots → best ≡ best_below n cs → new ≡ option_or (get_or slots n None) best → new ≡ best_below (n + 1) cs
 best_turn cs slots n best new small holds is e =
-    e ∙ ap (λ o. either o best) (holds n small) ∙ ap (either (last_at n cs)) is ∙ sym (best_more n cs)
+    e ∙ ap (λ o. option_or o best) (holds n small) ∙ ap (option_or (last_at n cs)) is ∙ sym (best_more n cs)
 
 pub best_all : (e : ℕ) (cs : List Found) → best_below (e + 1) cs ≡ highest e cs
 best_all e cs = ap (fold higher None) (same cs)

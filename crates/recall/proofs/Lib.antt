@@ -1,5 +1,4 @@
 mod Fetching
-pub mod Changing
 mod Loads
 mod Slots
 mod Bests

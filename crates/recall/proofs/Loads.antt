@@ -1,5 +1,5 @@
 -- A table read from a store, record by record.
-use Rattle.std.proofs.Common.{◌≡◌, ℕ, ◌+◌, ◌<◌, ◌≤◌, min, Bool, true, false, eqb, ltb, ◌⊎◌, List, [], ◌∷◌, ◌++◌, map, length, get_or, take, Some, None, sym, refl, ap, ◌∙◌, subst, inl, inr, arith}
+use Rattle.std.proofs.Common.{◌≡◌, ℕ, ◌+◌, ◌<◌, ◌≤◌, min, false, eqb, ltb, ◌⊎◌, List, [], ◌∷◌, ◌++◌, map, length, get_or, set, take, Some, None, Ok, Err, Result, sym, refl, ap, ◌∙◌, subst, inl, inr, arith}
 use Rattle.std.specs.List.{slice_get}
 use Rattle.std.proofs.lemmas.List.{length-take, length_push, take_all, take-append-le, take-take}
 use Rattle.std.proofs.lemmas.List.Sums.{fold_push}
@@ -11,17 +11,20 @@ use Rattle.records.specs.declared.Interval.{Interval}
 use Rattle.records.specs.declared.Record.{Record}
 use Rattle.stores.specs.Meaning as store
 use Rattle.rows.specs.Rows.{Held, held, grown, pushed, all_saved}
+use Rattle.rows.specs.declared.full.RowFull.{RowFull}
 use Rattle.rows.specs.declared.row.Row.{Row}
-use Rattle.tables.specs.Tables.{Changed, processes, row_of, idle}
+use Rattle.tables.specs.Tables.{Changed, Changes, processes, row_of, idle}
 use Rattle.tables.specs.declared.table.Table.{Table}
 use Rattle.tables.proofs.Families.{row_at, row_changed}
 use Rattle.histories.specs.Reading.{Image, noted, reading}
-use Rattle.recall.specs.Loaded.{readable, Changes, Loaded, emptied, noted_row, recalled, saved_row}
-use Rattle.recall.proofs.Changing.{with_row}
+use Rattle.recall.specs.Loaded.{readable, Loaded, emptied, noted_row, recalled, saved_row}
 use Rattle.recall.proofs.Fetching.{taken_more, taken_same}
 
+abbrev pub with_row : Table → ℕ → Row → Table
+with_row t p row = record { rows = set t.rows p row; count = t.count }
+
 -- an interval that was pushed onto its row is noted
-pub interval_noted : (t : Table) (x : Interval) (old new : Row) (r : Bool) → length t.rows ≡ 8 → x.process < processes t → ◌≡◌ {A = Bool × Held} (r, held new) (pushed x (held (get_or t.rows x.process old))) → Changes (noted_row (content.Interval x)) t (with_row t x.process new)
+pub interval_noted : (t : Table) (x : Interval) (old new : Row) (r : Result (Unit {0}) RowFull) → length t.rows ≡ 8 → x.process < processes t → ◌≡◌ {A = Result (Unit {0}) RowFull × Held} (r, held new) (pushed x (held (get_or t.rows x.process old))) → Changes (noted_row (content.Interval x)) t (with_row t x.process new)
 interval_noted t x old new r long exists is = record { count = refl; rows = λ p h. go p (cases_eq p x.process) }
   where
     changed : Changed x.process (held new) t (with_row t x.process new)
@@ -45,11 +48,11 @@ push_read xs s x = go (cases_lt (length (take 96 xs)) 96)
     go : (length (take 96 xs) < 96) ⊎ (96 ≤ length (take 96 xs)) → (pushed x (read_row xs s)).1 ≡ read_row (xs ++ (x ∷ [])) s
     go (inl h) =
         let few : length xs < 96 = omega (arith, length-take 96 xs) in
-        ap (λ (o : Bool × Held). o.1) (cond-true (ltb (length (take 96 xs)) 96) (true, grown x (read_row xs s)) (false, read_row xs s) (lt-ltb (length (take 96 xs)) 96 h))
+        ap (λ (o : Result (Unit {0}) RowFull × Held). o.1) (cond-true (ltb (length (take 96 xs)) 96) (Ok tt, grown x (read_row xs s)) (Err (record {}), read_row xs s) (lt-ltb (length (take 96 xs)) 96 h))
         ∙ ap (λ ys. record { intervals = ys; saved = 0; up = false; state = s })
         (ap (λ ys. ys ++ (x ∷ [])) (take_all 96 xs (omega arith)) ∙ sym (take_all 96 (xs ++ (x ∷ [])) (omega (arith, length_push xs x))))
     go (inr h) =
-        ap (λ (o : Bool × Held). o.1) (cond-false (ltb (length (take 96 xs)) 96) (true, grown x (read_row xs s)) (false, read_row xs s) (le-ltb (length (take 96 xs)) 96 h))
+        ap (λ (o : Result (Unit {0}) RowFull × Held). o.1) (cond-false (ltb (length (take 96 xs)) 96) (Ok tt, grown x (read_row xs s)) (Err (record {}), read_row xs s) (le-ltb (length (take 96 xs)) 96 h))
         ∙ ap (λ ys. record { intervals = ys; saved = 0; up = false; state = s }) (sym (take-append-le 96 xs (x ∷ []) (omega (arith, length-take 96 xs))))
 
 cut_read : (xs : List Interval) (e : ℕ) → take e (take 96 xs) ≡ take 96 (take e xs)

@@ -1,5 +1,5 @@
 -- What a table holds once a store is read into it.
-use Rattle.std.specs.Prelude.{◌≡◌, ℕ, ◌<◌, false, cond, List, [], length, take, ◌==◌, nat_lt, slice_index}
+use Rattle.std.specs.Prelude.{◌≡◌, ℕ, false, cond, List, [], length, take, ◌==◌, nat_lt, slice_index}
 use Rattle.programs.specs.declared.values.State.{State}
 use Rattle.records.specs.declared.Content.{Content}
 use Rattle.records.specs.declared.Content.TheVariants as content
@@ -15,11 +15,6 @@ use Rattle.histories.specs.Reading.{reading}
 -- what can be read of a store: its records, and none while it is dead
 abbrev pub readable : store.Meaning → List Record
 readable m = cond m.alive m.records []
-
--- the row of each process is changed, and nothing else
-pub record Changes (change : ℕ → Held → Held) (t u : Table) : Type 0 where
-  pub count : u.count ≡ t.count
-  pub rows : (p : ℕ) → p < processes t → row_of u p ≡ change p (row_of t p)
 
 -- down, and nothing stands
 abbrev pub emptied : Held → Held

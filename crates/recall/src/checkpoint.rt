@@ -9,6 +9,7 @@ use crate::fetch::record_at;
 use programs::values::State;
 use records::Content;
 use stores::store::Store;
+use tables::entries::entry;
 
 // A checkpoint: its index, its state, and the number of its record, counted from 1.
 #[derive(Clone, Copy)]
@@ -21,24 +22,11 @@ pub struct Found {
 // By index, the last checkpoint that stands.
 type Slots = [Option<Found>; 256];
 
-// To which interval a line sends the process back; 0 where the line has no entry.
-fn entry_of(entries: &[u8; 8], process: u8) -> u8
-    ensures { result ≡ slice_index entries.now process }
-{
-    if process < 8 {
-        entries[process as usize]
-    } else {
-        0
-    }
-}
-
 // What is above the limit stands no more.
 fn drop_above(slots: &mut Slots, limit: u8)
     ensures { (k : ℕ) → slice_index_or slots.new k None ≡ (if nat_le k limit then slice_index_or slots.old k None else None) }
 {
-    for k in limit as usize + 1..256 {
-        slots[k] = None;
-    }
+    slots[limit as usize + 1..].fill(None);
 }
 
 // One record more, with its number.
@@ -56,7 +44,7 @@ fn mark(slots: &mut Slots, process: u8, number: u64, content: Content)
                 });
             }
         }
-        Content::Line(entries) => drop_above(slots, entry_of(&entries, process)),
+        Content::Line(entries) => drop_above(slots, entry(&entries, process)),
     }
 }
 
@@ -65,10 +53,8 @@ fn highest(slots: &Slots, entry: u8) -> Option<Found>
     ensures { (cs : List Found) → Holds cs slots.now → result ≡ highest entry cs }
 {
     let mut best = None;
-    for k in 0..entry as usize + 1 {
-        if let Some(found) = slots[k] {
-            best = Some(found);
-        }
+    for slot in &slots[..=entry as usize] {
+        best = slot.or(best);
     }
     best
 }

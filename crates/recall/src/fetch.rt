@@ -12,8 +12,6 @@ pub(crate) fn record_at<S: Store>(store: &S, i: u64) -> Option<Record>
     ensures { result ≡ slice_get (readable (S.Store.means store.now)) i }
 {
     let mut place = Record::EMPTY;
-    match store.read(i + 1, &mut place) {
-        Ok(()) => Some(place),
-        Err(_) => None,
-    }
+    store.read(i + 1, &mut place).ok()?;
+    Some(place)
 }

@@ -1,7 +1,8 @@
 // The rows of a table, read from a store.
 ghost use Rattle.std.specs.Prelude.{◌≡◌};
 ghost use Rattle.rows.specs.Rows.{held, all_saved};
-ghost use Rattle.recall.specs.Loaded.{Changes, Loaded, emptied, noted_row};
+ghost use Rattle.tables.specs.Tables.{Changes};
+ghost use Rattle.recall.specs.Loaded.{Loaded, emptied, noted_row};
 
 use crate::fetch::record_at;
 use records::Content;
@@ -21,17 +22,13 @@ fn clear(row: &mut Row)
 pub fn clear_all(table: &mut Table)
     ensures { Changes (λ _ h. emptied h) table.old table.new }
 {
-    for p in 0..table.processes() as usize {
-        clear(&mut table.rows[p]);
-    }
+    table.change_rows(|_, row| clear(row));
 }
 
 fn save_all(table: &mut Table)
     ensures { Changes (λ _ h. all_saved h) table.old table.new }
 {
-    for p in 0..table.processes() as usize {
-        table.rows[p].save();
-    }
+    table.change_rows(|_, row| row.save());
 }
 
 // One record: an interval goes to its row, and a line cuts all rows.
@@ -42,7 +39,8 @@ fn note(table: &mut Table, content: Content)
     match content {
         Content::Interval(x) => {
             if x.process < table.processes() {
-                table.rows[x.process as usize].push(x);
+                let rows = &mut table.rows;
+                let _ = rows[x.process as usize].push(x);
             }
         }
         Content::Checkpoint(_) => {}

@@ -1,25 +1,17 @@
 // A replay: the intervals of a process played again.
 ghost use Rattle.std.specs.Prelude.{◌≡◌};
-ghost use Rattle.recall.specs.Replayed.{played, replayed};
+ghost use Rattle.recall.specs.Replayed.{replayed};
 
 use programs::program::Program;
 use programs::values::State;
 use records::Interval;
 
-// The state after one interval more.
-fn play<P: Program>(program: &P, process: u8, state: State, x: &Interval) -> State
-    ensures { result ≡ played (P.Program.means program.now) process state x.now }
-{
-    program.step(process, state, x.source, x.value).0
-}
-
 // The state that the intervals lead to, in their order, from the state `from`.
 pub fn replay<P: Program>(program: &P, process: u8, from: State, xs: &[Interval]) -> State
     ensures { result ≡ replayed (P.Program.means program.now) process from xs.now }
 {
-    let mut state = from;
-    for x in xs {
-        state = play(program, process, state, x);
-    }
-    state
+    xs.iter().fold(
+        from,
+        |state, x| program.step(process, state, x.source, x.value).0,
+    )
 }

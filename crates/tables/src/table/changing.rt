@@ -4,16 +4,10 @@ ghost use Rattle.rows.specs.Rows.{Held, held, cut_to};
 ghost use Rattle.tables.specs.Answers.{line_of};
 ghost use Rattle.tables.specs.Tables.{New, Changes};
 
+use crate::entries::entry;
 use crate::table::Table;
 use programs::values::State;
 use rows::row::Row;
-
-// To which interval a line sends a process back; 0 where the line has no entry.
-pub fn entry(line: &[u8; 8], process: u8) -> u8
-    ensures { result ≡ line_of line.now process }
-{
-    line.get(process as usize).copied().unwrap_or(0)
-}
 
 impl Table {
     // All processes are up, with no intervals and in this state.

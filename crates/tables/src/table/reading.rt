@@ -6,6 +6,7 @@ ghost use Rattle.tables.specs.Tables.{processes, row_of, family};
 use crate::table::Table;
 use programs::values::State;
 use records::Interval;
+use rows::part::rest;
 use rows::row::Row;
 
 impl Table {
@@ -45,12 +46,20 @@ impl Table {
         self.row(process).map_or(0, Row::saved)
     }
 
-    // How many intervals of a process are not saved.
+    // The intervals of a process that are not saved.
+    pub fn unsaved_intervals(&self, process: u8) -> &[Interval]
+        ensures value { result.now ≡ drop (row_of self.now process).saved (row_of self.now process).intervals }
+        ensures few { length result.now ≤ 96 }
+    {
+        rest(self.intervals(process), self.saved(process))
+    }
+
+    // How many they are.
     pub fn unsaved(&self, process: u8) -> u64
         ensures value { result ≡ length (drop (row_of self.now process).saved (row_of self.now process).intervals) }
         ensures bound { result ≤ 96 }
     {
-        (self.intervals(process).len() as u64).saturating_sub(u64::from(self.saved(process)))
+        self.unsaved_intervals(process).len() as u64
     }
 
     // The state of a process; zeros for what is none.

@@ -13,4 +13,4 @@ pub returns-in-Line : goal.returns-in-Line
 returns-in-Line c cs holds =
     let p = c.args.process in let slots = c.args.slots.now in let left = c.drop_above.new.slots in let entry = get_or c.in-Line.entries p 0 in
     subst (λ k. Holds (marked p c.args.number cs k) left) (sym c.in-Line.is)
-    (holds_kept cs slots left entry (λ k. c.drop_above.ensures k ∙ ap (λ e. cond (leb k e) (get_or slots k None) None) c.entry_of.ensures) holds)
+    (holds_kept cs slots left entry (λ k. c.drop_above.ensures k ∙ ap (λ e. cond (leb k e) (get_or slots k None) None) c.entry.ensures) holds)
