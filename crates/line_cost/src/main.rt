@@ -53,7 +53,7 @@ fn measure(rt: &HostRuntime) -> anyhow::Result<()> {
     }
     let mut line = [0; 8];
     for _ in 0..times.as_str().parse::<u32>()? {
-        greatest_line(&table, &counts, &mut line);
+        line = greatest_line(&table, &counts);
     }
     println!(rt; "{line:?}")?;
     Ok(())

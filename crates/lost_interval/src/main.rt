@@ -5,6 +5,8 @@ use programs::orders::{DISPATCH, INTAKE, Order, Orders, STOCK};
 use programs::program::Program;
 use programs::values::OUTSIDE;
 use records::Interval;
+use rows::full::RowFull;
+use std::array;
 use tables::channel::Waiting;
 use tables::line::greatest_line;
 use tables::table::Table;
@@ -12,9 +14,9 @@ use tables::table::Table;
 const NAMES: [&str; 3] = ["intake", "stock", "dispatch"];
 
 // The process takes the message and records the interval that it begins.
-fn begin(table: &mut Table, process: u8, source: u8, message: Waiting) {
+fn begin(table: &mut Table, process: u8, source: u8, message: Waiting) -> Result<(), RowFull> {
     if process >= 8 {
-        return;
+        return Ok(());
     }
     let vector = if source == OUTSIDE {
         table.input_vector(process)
@@ -24,7 +26,7 @@ fn begin(table: &mut Table, process: u8, source: u8, message: Waiting) {
     let row = &mut table.rows[process as usize];
     let (state, sends, output) = Orders.step(process, row.state(), source, message.value);
     let index = row.count() + 1;
-    let recorded = row.push(Interval {
+    row.push(Interval {
         process,
         index,
         source,
@@ -33,29 +35,25 @@ fn begin(table: &mut Table, process: u8, source: u8, message: Waiting) {
         sends: sends.within(3),
         output,
         vector,
-    });
-    if recorded {
-        row.enter(state);
-    }
+    })?;
+    row.enter(state);
+    Ok(())
 }
 
-fn input(table: &mut Table, process: u8, value: u64) {
-    begin(table, process, OUTSIDE, Waiting { value, sent_at: 0 });
+fn input(table: &mut Table, process: u8, value: u64) -> Result<(), RowFull> {
+    begin(table, process, OUTSIDE, Waiting { value, sent_at: 0 })
 }
 
-fn deliver(table: &mut Table, source: u8, target: u8) {
-    if let Some(message) = table.next_waiting(source, target) {
-        begin(table, target, source, message);
+fn deliver(table: &mut Table, source: u8, target: u8) -> Result<(), RowFull> {
+    match table.next_waiting(source, target) {
+        Some(message) => begin(table, target, source, message),
+        None => Ok(()),
     }
 }
 
 // How many intervals each process has.
 fn counts(table: &Table) -> [u8; 8] {
-    let mut counts = [0; 8];
-    for p in 0..8u8 {
-        counts[p as usize] = table.intervals(p).len() as u8;
-    }
-    counts
+    array::from_fn(|p| table.intervals(p as u8).len() as u8)
 }
 
 fn tell(rt: &HostRuntime, what: &str, counts: &[u8; 8]) -> anyhow::Result<()> {
@@ -78,10 +76,10 @@ fn show(rt: &HostRuntime) -> anyhow::Result<()> {
         quantity: 3,
     };
     let mut table = Table::new(3, Orders.start(INTAKE));
-    input(&mut table, STOCK, 10);
-    input(&mut table, INTAKE, u64::from(order));
-    deliver(&mut table, INTAKE, STOCK);
-    deliver(&mut table, STOCK, DISPATCH);
+    input(&mut table, STOCK, 10)?;
+    input(&mut table, INTAKE, u64::from(order))?;
+    deliver(&mut table, INTAKE, STOCK)?;
+    deliver(&mut table, STOCK, DISPATCH)?;
     tell(
         rt,
         "Ten pieces came in and order 1 took three. Intervals recorded:",
@@ -96,8 +94,7 @@ fn show(rt: &HostRuntime) -> anyhow::Result<()> {
         &left,
     )?;
 
-    let mut line = [0; 8];
-    greatest_line(&table, &left, &mut line);
+    let line = greatest_line(&table, &left);
     tell(
         rt,
         "Dispatch took a message that stock, as it stands, never sent. The recovery line:",

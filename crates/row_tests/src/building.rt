@@ -51,6 +51,7 @@ pub(crate) fn add(
             index,
             ..x
         })
+        .is_ok()
     );
     Ok(())
 }

@@ -1,14 +1,14 @@
 // Greatest lines: chains of orphans, domino effects, and a comparison with all lines of small tables.
 use crate::building::{empty, take, take_input};
 use programs::values::OUTSIDE;
+use rows::part::first;
+use std::array;
 use std::test::Fail;
 use tables::line::greatest_line;
 use tables::table::Table;
 
 fn line_within(table: &Table, counts: [u8; 8]) -> [u8; 8] {
-    let mut line = [255; 8];
-    greatest_line(table, &counts, &mut line);
-    line
+    greatest_line(table, &counts)
 }
 
 // Stock, order, its delivery to stock and the picking note at dispatch.
@@ -44,10 +44,7 @@ fn a_chain_through_all_processes(rt: HostRuntime) -> Result<(), Fail> {
         let mut counts = [1; 8];
         counts[count as usize - 1] = 0;
         assert_eq!(rt; line_within(&table, counts), [0; 8]);
-        let mut whole = [0; 8];
-        for p in 0..count as usize {
-            whole[p] = 1;
-        }
+        let whole: [u8; 8] = array::from_fn(|p| u8::from(p < count as usize));
         assert_eq!(rt; line_within(&table, [1; 8]), whole);
     }
     Ok(())
@@ -100,15 +97,11 @@ fn sources_that_do_not_exist(rt: HostRuntime) -> Result<(), Fail> {
 
 // Whether a line is consistent, straight from the rule.
 fn consistent(table: &Table, line: [u8; 8]) -> bool {
-    for p in 0..3u8 {
-        for (i, x) in table.intervals(p).iter().enumerate() {
-            let counted = i < line[p as usize] as usize;
-            if counted && x.source < 3 && x.sent_at > line[x.source as usize] {
-                return false;
-            }
-        }
-    }
-    true
+    (0..3u8).all(|p| {
+        first(table.intervals(p), line[p as usize])
+            .iter()
+            .all(|x| x.source >= 3 || x.sent_at <= line[x.source as usize])
+    })
 }
 
 // The highest entry at each process of any consistent line within the counts; at most three intervals each.

@@ -21,8 +21,8 @@ fn filled(n: u8) -> Row {
 fn a_full_row_takes_no_more(rt: HostRuntime) {
     let mut row = filled(95);
     assert_eq!(rt; row.count(), 95);
-    assert!(rt; row.push(Interval::EMPTY));
-    assert!(rt; !row.push(Interval::EMPTY));
+    assert!(rt; row.push(Interval::EMPTY).is_ok());
+    assert!(rt; row.push(Interval::EMPTY).is_err());
     assert_eq!(rt; row.count(), 96);
     assert_eq!(rt; filled(200).count(), 96);
 }
@@ -31,7 +31,7 @@ fn a_full_row_takes_no_more(rt: HostRuntime) {
 fn a_crash_leaves_what_is_saved(rt: HostRuntime) {
     let mut row = filled(3);
     row.save();
-    assert!(rt; row.push(Interval::EMPTY));
+    assert!(rt; row.push(Interval::EMPTY).is_ok());
     assert_eq!(rt; (row.count(), row.saved(), row.is_up()), (4, 3, true));
     row.crash();
     assert_eq!(rt; (row.count(), row.saved(), row.is_up()), (3, 3, false));
@@ -60,12 +60,13 @@ fn a_cut_lowers_the_saved_count(rt: HostRuntime) {
 #[test]
 fn outputs_by_number(rt: HostRuntime) {
     let mut row = filled(2);
-    assert!(rt; row.push(Interval::EMPTY));
+    assert!(rt; row.push(Interval::EMPTY).is_ok());
     assert!(rt;
         row.push(Interval {
             output: Some(99),
             ..Interval::EMPTY
         })
+        .is_ok()
     );
     for (line, n, wanted) in [
         (4, 0, None),

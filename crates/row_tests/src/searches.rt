@@ -13,10 +13,9 @@ fn send(target: u8, value: u64) -> Send {
 
 // The value and the sent-at of what waits next.
 fn next(table: &Table, source: u8, target: u8) -> Option<(u64, u8)> {
-    match table.next_waiting(source, target) {
-        Some(m) => Some((m.value, m.sent_at)),
-        None => None,
-    }
+    table
+        .next_waiting(source, target)
+        .map(|m| (m.value, m.sent_at))
 }
 
 fn next_input(table: &Table, process: u8) -> u8 {
