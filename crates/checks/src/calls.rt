@@ -18,7 +18,7 @@ use crate::refusal::Refusal;
 use crate::single::{awake, existing, first_waiting, limited, numbered, standing, unfilled};
 use programs::values::OUTSIDE;
 use rows::source::count_from;
-use stores::store::{Store, free_slots};
+use stores::store::Store;
 use tables::channel::Waiting;
 use tables::table::Table;
 
@@ -141,7 +141,7 @@ pub fn check_show(table: &Table, dark: bool, process: u64, n: u64) -> Result<u64
 pub fn check_room<S: Store>(store: &S, records: u64) -> Result<(), Refusal>
     ensures { Checked ((nat_lt (room (S.Store.means store.now)) records, by_store 18 (count (S.Store.means store.now))) ∷ []) (λ _. Unit {0}) result }
 {
-    if free_slots(store) < records {
+    if store.free_slots() < records {
         return Err(Refusal::NoRoom(store.count()));
     }
     Ok(())
