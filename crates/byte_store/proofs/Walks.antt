@@ -1,11 +1,12 @@
 -- Which frames stand.
-use Rattle.std.proofs.Common.{◌≡◌, ℕ, suc, ◌+◌, ◌-◌, ◌<◌, ◌≤◌, ◌⊎◌, true, false, leb, List, [], ◌∷◌, length, get_or, take, drop, ap, ◌∙◌, inl, inr, ⊎_elim, append-nil, arith, take-add}
+use Rattle.std.proofs.Common.{◌≡◌, ℕ, zero, suc, ◌+◌, ◌-◌, ◌<◌, ◌≤◌, ◌⊎◌, true, false, leb, List, [], ◌∷◌, length, get_or, take, drop, ap, ◌∙◌, inl, inr, ⊎_elim, arith, take-add}
 use Rattle.std.specs.List.{flat_map}
 use Rattle.std.proofs.lemmas.List.{length-append, length-drop, length-take-le, get_or-take, get_or-drop}
 use Rattle.std.specs.List.Sorted.{IsNonDecreasingBy, IsPartitionPoint}
 use Rattle.std.proofs.lemmas.List.Sorted.{IsNonDecreasingBy-from_default}
-use Rattle.std.proofs.lemmas.Bool.{cases_lt, cond-true, cond-false, le-leb, lt-leb, leb-true, leb-false}
-use Rattle.std.proofs.lemmas.Grind.{flat_map-append}
+use Rattle.std.proofs.lemmas.Bool.{cases_lt, leb-true, leb-false}
+use Rattle.std.proofs.lemmas.Grind.{flat_map-append, common_steps}
+use Rattle.std.proofs.lemmas.Bool.Decides.{nat_tests}
 use Rattle.records.specs.declared.Record.{Record}
 use Rattle.frames.specs.Frames.{framed}
 use Rattle.byte_store.specs.Journals.{Exact, standing}
@@ -16,31 +17,18 @@ span s k L =
     ap (λ xs. length (flat_map framed xs)) (take-add s k L) ∙ ap length (flat_map-append framed (take s L) (take k (drop s L)))
     ∙ length-append (flat_map framed (take s L)) (flat_map framed (take k (drop s L)))
 
+-- k frames stand where they end within j bytes and the next does not
 pub standing_is : (j : ℕ) (us : List Record) (k : ℕ) → k ≤ length us → length (flat_map framed (take k us)) ≤ j → (k ≡ length us) ⊎ (j < length (flat_map framed (take (k + 1) us))) → standing j us ≡ k
 standing_is j [] k h fits next = omega arith
-standing_is j (x ∷ xs) k h fits next =
-    ⊎_elim
-    (λ none.
-    ⊎_elim
-    (λ all. absurd (omega arith))
-    (λ past.
-    let one : take (k + 1) (x ∷ xs) ≡ x ∷ [] = ap (λ m. take m (x ∷ xs)) (let e : k + 1 ≡ 1 = omega arith in e) in
-    let size = ap (λ ys. length (flat_map framed ys)) one ∙ ap length (append-nil (framed x)) in
-    cond-false _ _ _ (lt-leb (length (framed x)) j (omega arith)) ∙ omega arith)
-    next)
-    (λ some.
-    let m = k - 1 in
-    let e : k ≡ suc m = omega arith in
-    let size : length (flat_map framed (take k (x ∷ xs))) ≡ length (framed x) + length (flat_map framed (take m xs)) =
-    ap (λ n. length (flat_map framed (take n (x ∷ xs)))) e ∙ length-append (framed x) (flat_map framed (take m xs)) in
-    let e' : k + 1 ≡ suc (m + 1) = omega arith in
-    let more : length (flat_map framed (take (k + 1) (x ∷ xs))) ≡ length (framed x) + length (flat_map framed (take (m + 1) xs)) =
-    ap (λ n. length (flat_map framed (take n (x ∷ xs)))) e' ∙ length-append (framed x) (flat_map framed (take (m + 1) xs)) in
-    let rest : standing (j - length (framed x)) xs ≡ m =
-    standing_is (j - length (framed x)) xs m (omega arith) (omega arith)
-    (⊎_elim (λ all. inl (omega arith)) (λ past. inr (omega arith)) next) in
-    cond-true _ _ _ (le-leb (length (framed x)) j (omega arith)) ∙ omega arith)
-    (let c : (k ≡ 0) ⊎ (0 < k) = ⊎_elim (λ l. inr l) (λ l. inl (omega arith)) (cases_lt 0 k) in c)
+standing_is j (x ∷ xs) zero h fits next =
+    grind (arith, common_steps, nat_tests, length-append (framed x) [])
+standing_is j (x ∷ xs) (suc k) h fits next =
+    let one : suc k + 1 ≡ suc (k + 1) = omega arith in
+    let more = ap (λ m. length (flat_map framed (take m (x ∷ xs)))) one in
+    let rest : length (framed x) ≤ j → standing (j - length (framed x)) xs ≡ k = λ l.
+    standing_is (j - length (framed x)) xs k (omega arith) (omega (arith, length-append (framed x) (flat_map framed (take k xs))))
+    (⊎_elim (λ all. inl (omega arith)) (λ past. inr (omega (arith, length-append (framed x) (flat_map framed (take (k + 1) xs))))) next) in
+    grind (arith, common_steps, nat_tests, rest, length-append (framed x) (flat_map framed (take k xs)))
 
 -- the places behind the safe frames, less the place where the safe ones end
 module _ {bs ends : List ℕ} {n : ℕ} {rs : List Record} (h : Exact bs ends n rs) (safe : ℕ) (few : safe ≤ n) (long : n < length ends) where

@@ -1,5 +1,5 @@
 // What the records of a store lie in: a list that grows at its end, is read by index and is cut.
-ghost use Rattle.std.specs.Prelude.{◌≡◌, ℕ, ◌+◌, ◌<◌, ◌≤◌, List, [], ◌∷◌, ◌++◌, length, take, drop, slice_index_or};
+ghost use Rattle.std.specs.Prelude.{◌≡◌, ℕ, ◌+◌, ◌<◌, ◌≤◌, List, [], ◌∷◌, ◌++◌, length, take, drop, slice_get};
 ghost use Rattle.records.specs.declared.Record.{Record as Row};
 
 use records::Record;
@@ -26,7 +26,7 @@ pub trait Medium: Sized {
     // The record behind `i` others.
     fn at(&self, i: usize) -> Record
         requires { i < length (records self.now) }
-        ensures { (d : Row) → result ≡ slice_index_or (records self.now) i d };
+        ensures { slice_get (records self.now) i ≡ Some result };
 
     // How many records stand where the first `safe` of them were safe.
     fn standing(&self, safe: usize, j: u64) -> usize

@@ -98,7 +98,7 @@ impl<M: Medium> Store for RecordStore<M> {
     fn revive(&mut self, j: u64) -> Result<u64, Fault>
         ensures choice { kept result ≤ unsafe_count (meaning self.old) }
         ensures after { (answer result, meaning self.new) ≡ revived (kept result) (meaning self.old) }
-        ensures pinned { (answer result, meaning self.new) ≡ revived (M.standing j (drop self.old.safe (M.records self.old.medium))) (meaning self.old) }
+        ensures pinned { (answer result, meaning self.new) ≡ revived (M.standing j (drop (meaning self.old).safe (meaning self.old).records)) (meaning self.old) }
         ensures memory { OnOk result (M.shortened self.old.medium self.new.medium) }
         ensures same { OnErr result (self.new.medium ≡ self.old.medium) }
     {

@@ -14,7 +14,6 @@ pub struct Slots<'a> {
     slots: &'a mut [Record],
     count: usize,
     ghost within: { count ≤ length slots.now },
-    ghost bounded: { count ≤ 4096 },
 }
 
 impl Medium for Slots<'_> {
