@@ -1,3 +1,2 @@
 mod Filed
 mod Walks
-mod Means

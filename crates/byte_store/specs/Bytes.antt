@@ -1,42 +1,30 @@
--- What the byte store means by its fields, and what its bytes are after a call.
-use Rattle.std.specs.Prelude.{◌≡◌, ℕ, ◌+◌, ◌/◌, min, Bool, true, cond, List, [], ◌∷◌, ◌++◌, length, take, drop, None}
+-- The records of a byte store, and what its bytes are after a call.
+use Rattle.std.specs.Prelude.{◌≡◌, ℕ, ◌+◌, ◌/◌, min, List, [], ◌∷◌, ◌++◌, length, take, drop, slice_index}
 use Rattle.records.specs.declared.Record.{Record}
 use Rattle.frames.specs.Frames.{framed}
-use Rattle.frames.specs.Reads.{first_line}
-use Rattle.stores.specs.Meaning.{Meaning}
-use Rattle.byte_store.specs.declared.ByteStore.{ByteStore}
-use Rattle.byte_store.specs.Journals.{extent, listed, zeroed, standing, Whole}
+use Rattle.frames.specs.Reads.{reading, first_line}
+use Rattle.byte_store.specs.declared.journal.Journal.{Journal}
+use Rattle.byte_store.specs.Journals.{zeroed, standing}
 
-abbrev pub medium : ByteStore → List ℕ
-medium s = s.journal.bytes.now
+-- the records of the first frames
+abbrev pub listed : Journal → List Record
+listed j = reading j.count j.bytes.now
 
-abbrev pub means : ByteStore → Meaning
-means s = record {
-  records = listed s.journal;
-  capacity = min (length (medium s) / 53) 4096;
-  safe = min s.safe (length (listed s.journal));
-  alive = s.power.alive;
-  fuse = s.power.fuse;
-}
+-- the place behind the last frame
+abbrev pub extent : Journal → ℕ
+extent j = slice_index j.ends j.count
 
--- a store as it is made over so many bytes: empty, alive and with no fuse
-abbrev pub empty : ℕ → Meaning
-empty n = record { records = []; capacity = min (n / 53) 4096; safe = 0; alive = true; fuse = None }
+-- the capacity over so many bytes
+abbrev pub room_of : ℕ → ℕ
+room_of n = min (n / 53) 4096
 
--- the bytes are exactly the frames of the records, and zeros behind them
-abbrev pub Sound : ByteStore → Type 0
-Sound s = Whole s.journal
+-- the bytes after a record more: its frame lies behind the others; every other byte is as it was
+abbrev pub filled : Journal → Record → List ℕ
+filled j x = take (extent j) j.bytes.now ++ framed x ++ drop (extent j + length (framed x)) j.bytes.now
 
--- the bytes after an append: if it was accepted, the record's frame lies behind the others; every other byte is as it was
-abbrev pub filled : ByteStore → Record → Bool → List ℕ
-filled s x accepted =
-    cond accepted
-    (take (extent s.journal) (medium s) ++ framed x ++ drop (extent s.journal + length (framed x)) (medium s))
-    (medium s)
-
--- the bytes after a revive that left the store t: if it was accepted, they are zero behind the frames that remain
-abbrev pub cleared : ByteStore → ByteStore → Bool → List ℕ
-cleared s t accepted = cond accepted (zeroed (extent t.journal) (medium s)) (medium s)
+-- the bytes of j after a cut that left k: they are zero behind the frames that remain
+abbrev pub cleared : Journal → Journal → List ℕ
+cleared j k = zeroed (extent k) j.bytes.now
 
 -- the line 1 and then zeros, unsafe: with 12 of its bytes it is lost, with 13 it stands
 abbrev pub LineStands : Type 0

@@ -10,5 +10,5 @@ pub fn line_standing(j: u64) -> u64
     ensures edge { LineStands }
     ensures value { result ≡ standing j (first_line ∷ []) }
 {
-    if j >= 13 { 1 } else { 0 }
+    u64::from(j >= 13)
 }

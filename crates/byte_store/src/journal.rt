@@ -1,146 +1,114 @@
-// Frames in lent bytes, one behind the other, and where each of them begins.
-ghost use Rattle.std.specs.Prelude.{◌≡◌, ◌+◌, ◌*◌, ◌<◌, ◌≤◌, [], ◌∷◌, ◌++◌, length, take, drop, replicate, slice_index_or};
-ghost use Rattle.records.specs.declared.Record.{Record as Row};
-ghost use Rattle.frames.specs.Frames.{Wrote, framed};
-ghost use Rattle.byte_store.specs.Journals.{number, extent, listed, start as beginning, standing as surviving, zeroed, Whole, Ends};
+// Frames in lent bytes, one behind the other, and where each of them ends.
+ghost use Rattle.std.specs.Prelude.{◌≡◌, ◌≤◌, length};
+ghost use Rattle.frames.specs.Reads.{reading};
+ghost use Rattle.byte_store.specs.Journals.{Exact, exact_prop, zeroed};
 
 use frames::read::read_frame;
 use frames::write::{LARGEST, write_frame};
 use records::Record;
+use stores::medium::{Medium, Over};
 use stores::store::MAX_CAPACITY;
 
-// The fields are held to what there can be by `len` and `end`: no fact of them can stand in a type
-// that has lent bytes.
+// One more than there are frames: none ends at 0.
+const ENDS: usize = MAX_CAPACITY + 1;
+
+// The records are the first `count` frames; an array with a count, as there is no heap.
 #[derive(Drop)]
-pub(crate) struct Journal<'a> {
+pub struct Journal<'a> {
     bytes: &'a mut [u8],
-    starts: [u32; MAX_CAPACITY],
+    // at `k`, where the first `k` frames end
+    ends: [u32; ENDS],
     count: usize,
-    used: usize,
+    ghost bounded: { count ≤ 4096 },
+    ghost exact: { Exact bytes.now ends count (reading count bytes.now) } by { exact_prop bytes.now ends count (reading count bytes.now) },
 }
 
 impl Journal<'_> {
-    pub(crate) fn len(&self) -> usize
-        ensures value { result ≡ number self.now }
-        ensures records { result ≡ length (listed self.now) }
-    {
-        self.count.min(MAX_CAPACITY)
-    }
+    ghost use Rattle.byte_store.specs.Bytes.{listed, extent};
+    ghost use Rattle.byte_store.specs.Journals.{FramesAndZeros};
 
-    pub(crate) fn bytes(&self) -> &[u8]
-        ensures { result.now ≡ self.now.bytes.now }
+    // The bytes as they are: the frames of the records, and zeros behind them.
+    pub fn bytes(&self) -> &[u8]
+        ensures value { result.now ≡ self.now.bytes.now }
+        ensures frames { FramesAndZeros result.now (listed self.now) }
     {
-        self.bytes
-    }
-
-    pub(crate) fn size(&self) -> usize
-        ensures { result ≡ length self.now.bytes.now }
-    {
-        self.bytes.len()
+        &self.bytes
     }
 
     // The place behind the last frame.
-    pub(crate) fn end(&self) -> usize
+    fn end(&self) -> usize
         ensures { result ≡ extent self.now }
     {
-        self.used.min((LARGEST * self.len()).min(self.bytes.len()))
-    }
-
-    // Writes the frame of one record more behind the others.
-    pub(crate) fn push(&mut self, record: Record)
-        requires { (length (listed self.old) < 4096) × (53 * length (listed self.old) + 53 ≤ length self.old.bytes.now) }
-        ensures size { length self.new.bytes.now ≡ length self.old.bytes.now }
-        ensures wrote { Wrote self.old.bytes.now (extent self.old) (framed «record») self.new.bytes.now (extent self.new) }
-        ensures records { listed self.new ≡ listed self.old ++ «record» ∷ [] }
-        ensures whole { Whole self.old → Whole self.new }
-    {
-        let count = self.len();
-        let at = self.end();
-        let Some(end) = write_frame(self.bytes, at, &record) else {
-            unreachable()
-        };
-        self.starts[count] = at as u32;
-        self.count = count + 1;
-        self.used = end;
-    }
-
-    // Where the frame behind `n` others begins.
-    fn start(&self, n: usize) -> usize
-        requires { n < 4096 }
-        ensures { result ≡ beginning self.now.starts n }
-    {
-        (self.starts[n] as usize).min(LARGEST * n)
-    }
-
-    // Where the first `k` frames end.
-    fn place(&self, k: usize) -> usize
-        requires { k ≤ length (listed self.now) }
-        ensures { Ends self.now k result }
-    {
-        let mut end = self.end();
-        let mut n = self.len();
-        while n > k {
-            n -= 1;
-            end = end.min(self.start(n));
-        }
-        end
-    }
-
-    // The record behind `i` others.
-    pub(crate) fn at(&self, i: usize) -> Record
-        requires { i < length (listed self.now) }
-        ensures { (d : Row) → result ≡ slice_index_or (listed self.now) i d }
-    {
-        let end = self.place(i + 1);
-        let start = self.start(i);
-        read_frame(&self.bytes[0..end], start).unwrap_or(Record::EMPTY)
-    }
-
-    // How many frames behind the first `safe` have their closing byte within the first `j` bytes
-    // of them.
-    pub(crate) fn standing(&self, safe: usize, j: u64) -> usize
-        requires { safe ≤ length (listed self.now) }
-        ensures bound { safe + result ≤ length (listed self.now) }
-        ensures value { Whole self.now → result ≡ surviving j (drop safe (listed self.now)) }
-    {
-        let from = self.place(safe);
-        let mut end = self.end();
-        let mut n = self.len();
-        while n > safe && end.saturating_sub(from) as u64 > j {
-            n -= 1;
-            end = end.min(self.start(n));
-        }
-        n - safe
-    }
-
-    // Leaves the first `k` frames, with zeros behind them.
-    pub(crate) fn cut(&mut self, k: usize)
-        requires { k ≤ length (listed self.old) }
-        ensures size { length self.new.bytes.now ≡ length self.old.bytes.now }
-        ensures zeroed { self.new.bytes.now ≡ zeroed (extent self.new) self.old.bytes.now }
-        ensures records { listed self.new ≡ take k (listed self.old) }
-        ensures whole { Whole self.old → Whole self.new }
-    {
-        let end = self.place(k);
-        zero(self.bytes, end);
-        self.count = k;
-        self.used = end;
+        self.ends[self.count] as usize
     }
 }
 
-impl<'a> Journal<'a> {
-    // No frame, and zeros in all bytes.
-    pub(crate) fn new(bytes: &'a mut [u8]) -> Journal<'a>
-        ensures zeroed { result.bytes.now ≡ replicate (length bytes.old) 0 }
-        ensures records { listed result ≡ [] }
-        ensures whole { Whole result }
-    {
+impl Medium for Journal<'_> {
+    ghost use Rattle.std.proofs.Math.Nat.{min-le_right};
+    ghost use Rattle.byte_store.specs.Bytes.{listed, room_of, filled, cleared};
+    ghost use Rattle.byte_store.specs.Journals.{standing as surviving};
+
+    ghost records = { listed };
+
+    ghost capacity = { λ j. room_of (length j.bytes.now) };
+
+    ghost standing = { surviving };
+
+    ghost grown = { λ j x k. k.bytes.now ≡ filled j x };
+
+    ghost shortened = { λ j k. k.bytes.now ≡ cleared j k };
+
+    ghost bounded = { λ j. min-le_right _ 4096 };
+
+    fn len(&self) -> usize {
+        self.count
+    }
+
+    fn capacity(&self) -> usize {
+        (self.bytes.len() / LARGEST).min(MAX_CAPACITY)
+    }
+
+    fn at(&self, i: usize) -> Record {
+        read_frame(self.bytes, self.ends[i] as usize).unwrap()
+    }
+
+    // Those whose closing byte is within the first `j` bytes behind the safe frames.
+    fn standing(&self, safe: usize, j: u64) -> usize {
+        let from = self.ends[safe];
+        let others = &self.ends[safe + 1..=self.count];
+        safe + others.partition_point(|end| end.saturating_sub(from) as u64 <= j)
+    }
+
+    fn push(&mut self, record: Record) {
+        let at = self.end();
+        let end = write_frame(self.bytes, at, &record).unwrap();
+        self.count += 1;
+        self.ends[self.count] = end as u32;
+    }
+
+    // Leaves zeros behind the first `n` frames.
+    fn cut(&mut self, n: usize) {
+        let end = self.ends[n] as usize;
+        zero(self.bytes, end);
+        self.count = n;
+    }
+}
+
+// The bytes are zeroed.
+impl<'a> Over<&'a mut [u8]> for Journal<'a> {
+    ghost use Rattle.std.specs.Prelude.{replicate};
+    ghost use Rattle.byte_store.specs.Bytes.{room_of};
+
+    ghost room = { λ bytes. room_of (length bytes.now) };
+
+    ghost begun = { λ bytes j. j.bytes.now ≡ replicate (length bytes.now) 0 };
+
+    fn over(bytes: &'a mut [u8]) -> Journal<'a> {
         zero(bytes, 0);
         Journal {
             bytes,
-            starts: [0; MAX_CAPACITY],
+            ends: [0; ENDS],
             count: 0,
-            used: 0,
         }
     }
 }

@@ -17,7 +17,7 @@ use crate::single::{limited, numbered};
 use crate::state::HostState;
 use programs::values::OUTSIDE;
 use rows::source::count_from;
-use stores::store::{Store, free_slots};
+use stores::store::Store;
 use tables::channel::Waiting;
 use tables::entries::entry;
 
@@ -33,7 +33,7 @@ pub struct Delivery {
 pub fn check_room<S: Store>(store: &S, records: u64) -> Result<(), Refusal>
     ensures { Checked ((nat_lt (room (S.Store.means store.now)) records, by_store 18 (count (S.Store.means store.now))) ∷ []) (λ _. Unit {0}) result }
 {
-    if free_slots(store) < records {
+    if store.free_slots() < records {
         return Err(Refusal::NoRoom(store.count()));
     }
     Ok(())

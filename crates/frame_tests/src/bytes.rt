@@ -32,7 +32,7 @@ fn holds(rt: &impl Abort, size: usize, capacity: u64) -> Result<(), Fail> {
     let mut bytes = [0xEE; 217_141];
     assert!(rt; size <= 217_141);
     let mut store = ByteStore::new(&mut bytes[0..size]);
-    zero(rt, store.bytes());
+    zero(rt, store.medium().bytes());
     assert_eq!(rt; store.capacity(), capacity);
     for i in 0..capacity {
         store.append(samples::line((i % 251) as u8))?;
@@ -72,8 +72,8 @@ fn stands(rt: &impl Abort, j: u64, kept: u64) -> Result<(), Fail> {
         2 => 65,
         _ => 118,
     };
-    assert!(rt; store.bytes().len() == 300);
-    zero(rt, &store.bytes()[end..]);
+    assert!(rt; store.medium().bytes().len() == 300);
+    zero(rt, &store.medium().bytes()[end..]);
     store.append(samples::checkpoint())?;
     reads(rt, &store, kept.saturating_add(2), samples::checkpoint())
 }

@@ -6,28 +6,23 @@ use byte_store::ByteStore;
 use frames::write::LARGEST;
 use records::Record;
 use std::env;
+use stores::fault::Fault;
 use stores::store::{MAX_CAPACITY, Store};
 
-const BYTES: usize = 217_088;
+const BYTES: usize = LARGEST * MAX_CAPACITY;
 
-fn fill<S: Store>(store: &mut S) -> u64 {
+fn fill<S: Store>(store: &mut S) -> Result<u64, Fault> {
     for _ in 0..store.capacity() {
-        if store.append(Record::EMPTY).is_err() {
-            break;
-        }
+        store.append(Record::EMPTY)?;
     }
-    store.count()
+    Ok(store.count())
 }
 
-fn read_all<S: Store>(store: &S) -> u64 {
+fn read_all<S: Store>(store: &S) -> usize {
     let mut place = Record::EMPTY;
-    let mut read: u64 = 0;
-    for i in 0..store.count() {
-        if store.read(i + 1, &mut place).is_ok() {
-            read = read.saturating_add(1);
-        }
-    }
-    read
+    (1..=store.count())
+        .filter(|&i| store.read(i, &mut place).is_ok())
+        .count()
 }
 
 // Two words: how many records the store is to have room for, and `fill` or `read`.
@@ -43,7 +38,7 @@ fn main(rt: HostRuntime) -> anyhow::Result<()> {
     let size = records.min(MAX_CAPACITY) * LARGEST;
     let mut bytes = [0; BYTES];
     let mut store = ByteStore::new(&mut bytes[0..size]);
-    let filled = fill(&mut store);
+    let filled = fill(&mut store)?;
     println!(rt; "{filled} records written")?;
     if read {
         let found = read_all(&store);

@@ -9,38 +9,19 @@ use drill::{Loss, cut_power, restore};
 use records::Record;
 use samples::{LINE, MARK, SENT, TAKEN};
 use std::io;
-use stores::fault::Fault;
 use stores::slots::SlotStore;
-use stores::store::{Store, free_slots, lasting_count};
-
-#[derive(Debug, Drop)]
-enum Stop {
-    Printing(io::Error),
-    Refused(Fault),
-}
-
-impl From<io::Error> for Stop {
-    fn from(e: io::Error) -> Stop {
-        Stop::Printing(e)
-    }
-}
-
-impl From<Fault> for Stop {
-    fn from(fault: Fault) -> Stop {
-        Stop::Refused(fault)
-    }
-}
+use stores::store::Store;
 
 fn held<S: Store>(rt: &HostRuntime, store: &S) -> io::Result<()> {
     let count = store.count();
-    let safe = lasting_count(store);
+    let safe = store.lasting_count();
     let power = if store.is_alive() { "alive" } else { "dead" };
     println!(rt; "  the store is {power} and holds {count} records, {safe} of them safe")
 }
 
 // Two records are made safe, two more written, and the power goes before those are.
-fn show<S: Store>(rt: &HostRuntime, name: &str, store: &mut S, j: u64) -> Result<(), Stop> {
-    let free = free_slots(store);
+fn show<S: Store>(rt: &HostRuntime, name: &str, store: &mut S, j: u64) -> anyhow::Result<()> {
+    let free = store.free_slots();
     println!(rt; "{name} with room for {free} records")?;
     store.append(SENT)?;
     store.append(TAKEN)?;
@@ -61,19 +42,17 @@ fn show<S: Store>(rt: &HostRuntime, name: &str, store: &mut S, j: u64) -> Result
     Ok(())
 }
 
-fn show_slots(rt: &HostRuntime, j: u64) -> Result<(), Stop> {
+fn show_slots(rt: &HostRuntime, j: u64) -> anyhow::Result<()> {
     let mut slots = [Record::EMPTY; 8];
-    let mut store = SlotStore::new(&mut slots);
-    show(rt, "slot store", &mut store, j)
+    show(rt, "slot store", &mut SlotStore::new(&mut slots), j)
 }
 
-fn show_bytes(rt: &HostRuntime, j: u64) -> Result<(), Stop> {
+fn show_bytes(rt: &HostRuntime, j: u64) -> anyhow::Result<()> {
     let mut bytes = [0; 424];
-    let mut store = ByteStore::new(&mut bytes);
-    show(rt, "byte store", &mut store, j)
+    show(rt, "byte store", &mut ByteStore::new(&mut bytes), j)
 }
 
-fn main(rt: HostRuntime) -> Result<(), Stop> {
+fn main(rt: HostRuntime) -> anyhow::Result<()> {
     for j in [0, 1, 2, 9] {
         show_slots(&rt, j)?;
     }

@@ -10,7 +10,7 @@ mod tests {
     use std::test::Fail;
     use stores::fault::Fault;
     use stores::slots::SlotStore;
-    use stores::store::{Store, free_slots};
+    use stores::store::Store;
 
     fn interval(index: u8, sends: Sends, output: Option<u64>) -> Record {
         Record {
@@ -95,9 +95,8 @@ mod tests {
         assert_eq!(rt; store.safe_count(), 0);
         store.sync()?;
         assert_eq!(rt; store.safe_count(), 5);
-        let all = samples();
-        for i in 0..5 {
-            reads(rt, store, i as u64 + 1, all[i])?;
+        for (i, record) in samples().iter().enumerate() {
+            reads(rt, store, i as u64 + 1, *record)?;
         }
         refuses(rt, store, 0, Fault::NoRecord);
         refuses(rt, store, 6, Fault::NoRecord);
@@ -105,35 +104,33 @@ mod tests {
         Ok(())
     }
 
+    // Done if there is power for it, and refused as dead otherwise.
+    fn done(has_power: bool) -> Result<(), Fault> {
+        has_power.then_some(()).ok_or(Fault::Dead)
+    }
+
     // Three appends and a sync, with a fuse of `k`: the first `k` of them are done, and the next is refused.
     fn dies_at<S: Store>(rt: &impl Abort, store: &mut S, k: u64) {
         store.arm(k);
         for i in 0..3u8 {
-            let expected = if (i as u64) < k {
-                Ok(())
-            } else {
-                Err(Fault::Dead)
-            };
-            assert_eq!(rt; store.append(line(i)), expected);
+            assert_eq!(rt; store.append(line(i)), done(u64::from(i) < k));
         }
-        let synced = if k > 3 { Ok(()) } else { Err(Fault::Dead) };
-        assert_eq!(rt; store.sync(), synced);
+        assert_eq!(rt; store.sync(), done(k > 3));
         assert_eq!(rt; store.count(), k.min(3));
         assert_eq!(rt; store.safe_count(), if k > 3 { 3 } else { 0 });
         assert_eq!(rt; store.is_alive(), k > 3);
         // four writes bring a fuse of 4 to 0
-        let again = store.sync();
-        assert_eq!(rt; again, if k > 4 { Ok(()) } else { Err(Fault::Dead) });
+        assert_eq!(rt; store.sync(), done(k > 4));
     }
 
     // Takes as many records as its capacity says, and then refuses without burning the fuse.
     fn fills<S: Store>(rt: &impl Abort, store: &mut S, capacity: u64) -> Result<(), Fail> {
         assert_eq!(rt; store.capacity(), capacity);
-        assert_eq!(rt; free_slots(store), capacity);
+        assert_eq!(rt; store.free_slots(), capacity);
         for i in 0..capacity {
             store.append(line((i % 256) as u8))?;
         }
-        assert_eq!(rt; free_slots(store), 0);
+        assert_eq!(rt; store.free_slots(), 0);
         store.arm(0);
         assert_eq!(rt; store.append(line(0)), Err(Fault::Full));
         assert_eq!(rt; store.count(), capacity);

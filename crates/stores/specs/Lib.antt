@@ -3,3 +3,4 @@ pub mod Meaning
 pub mod Calls
 pub mod Laws
 pub mod Slots
+pub mod RecordStores

@@ -1,9 +1,7 @@
 -- What a store is to those who call it.
-use Rattle.std.specs.Prelude.{ℕ, Bool, List, length, Option}
+use Rattle.std.specs.Prelude.{ℕ, Bool, ◌≤◌, List, length, Option}
 use Rattle.records.specs.declared.Record.{Record}
 
--- of each store the capacity is at most 4,096, and no more is safe than it holds;
--- that it holds no more than its capacity is not said
 pub record Meaning : Type 0 where
   pub records : List Record
   pub capacity : ℕ
@@ -15,3 +13,8 @@ pub record Meaning : Type 0 where
 
 abbrev pub count : Meaning → ℕ
 count m = length m.records
+
+-- what holds of each store; that it holds no more than its capacity is not said
+pub record Sound (m : Meaning) : Type 0 where
+  pub bounded : m.capacity ≤ 4096
+  pub within : m.safe ≤ count m

@@ -1,27 +1,16 @@
--- What the slot store means by its fields: every combination of them means some store.
-use Rattle.std.specs.Prelude.{ℕ, ◌+◌, min, Bool, true, cond, List, [], length, take, None, slice_set}
+-- The records of a slot store, and its slots after a record more.
+use Rattle.std.specs.Prelude.{ℕ, min, List, take, slice_set}
 use Rattle.records.specs.declared.Record.{Record}
-use Rattle.stores.specs.Meaning.{Meaning, count}
-use Rattle.stores.specs.declared.power.Power.{Power}
-use Rattle.stores.specs.declared.slots.SlotStore.{SlotStore}
+use Rattle.stores.specs.declared.slots.Slots.{Slots}
 
--- the list is the first slots, as many as are safe or pending; no more than there are
-abbrev pub laid : List Record → ℕ → ℕ → Power → Meaning
-laid slots safe pending power = record {
-  records = take (safe + pending) slots;
-  capacity = min (length slots) 4096;
-  safe = min safe (length (take (safe + pending) slots));
-  alive = power.alive;
-  fuse = power.fuse;
-}
+-- the list is the first slots
+abbrev pub listed : Slots → List Record
+listed s = take s.count s.slots.now
 
-abbrev pub means : SlotStore → Meaning
-means s = laid s.slots.now s.safe s.pending s.power
+-- the capacity over so many slots
+abbrev pub room_of : ℕ → ℕ
+room_of n = min n 4096
 
--- a store as it is made over so many slots: empty, alive and with no fuse
-abbrev pub empty : ℕ → Meaning
-empty n = record { records = []; capacity = min n 4096; safe = 0; alive = true; fuse = None }
-
--- the slots after an append: if it was accepted, the one behind the list is written; every other is as it was
-abbrev pub filled : SlotStore → Record → Bool → List Record
-filled s x accepted = cond accepted (slice_set s.slots.now (count (means s)) x) s.slots.now
+-- the one slot behind the list is written; every other is as it was
+abbrev pub filled : Slots → Record → List Record
+filled s x = slice_set s.slots.now s.count x

@@ -2,26 +2,24 @@
 ghost use Rattle.std.specs.Prelude.{◌≡◌};
 ghost use Rattle.stores.specs.Faults.{number};
 
-#[derive(Clone, Copy, PartialEq, Eq, Debug)]
+use thiserror::Error;
+
+#[derive(Clone, Copy, PartialEq, Eq, Debug, Error)]
 pub enum Fault {
-    // without power
-    Dead,
-    Full,
-    // no record at that place
-    NoRecord,
-    // revived while it has power
-    Alive,
+    #[error("the store has no power")]
+    Dead = 40,
+    #[error("the store is full")]
+    Full = 41,
+    #[error("the store has no record at that place")]
+    NoRecord = 42,
+    #[error("the store has power, and is not revived")]
+    Alive = 43,
 }
 
 impl Fault {
     pub fn number(self) -> u8
         ensures { result ≡ number self }
     {
-        match self {
-            Fault::Dead => 40,
-            Fault::Full => 41,
-            Fault::NoRecord => 42,
-            Fault::Alive => 43,
-        }
+        self as u8
     }
 }

@@ -2,6 +2,8 @@
 #![tactic(auto)]
 
 pub mod fault;
+pub mod medium;
 pub mod power;
+pub mod record_store;
 pub mod slots;
 pub mod store;

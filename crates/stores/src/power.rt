@@ -5,6 +5,7 @@ ghost use Rattle.stores.specs.Faults.{answer};
 
 use crate::fault::Fault;
 
+// No enum of on and off: a dead store may be armed too, so both fields count in both states.
 #[derive(Clone, Copy)]
 pub struct Power {
     pub alive: bool,

@@ -2,8 +2,8 @@
 ghost use Rattle.std.specs.Prelude.{◌≡◌, ◌≤◌, length};
 ghost use Rattle.stores.specs.Calls.{appended, synced, armed, fetched, revived, kept, unsafe_count, room};
 ghost use Rattle.stores.specs.Faults.{answer};
-ghost use Rattle.stores.specs.Laws.{Lasting, SafeRecordsLast};
-ghost use Rattle.stores.specs.Meaning.{Meaning};
+ghost use Rattle.stores.specs.Laws.{Lasting};
+ghost use Rattle.stores.specs.Meaning.{Meaning, Sound};
 
 use crate::fault::Fault;
 use records::Record;
@@ -40,34 +40,28 @@ pub trait Store {
         ensures { result ≡ length (means self.now).records };
 
     fn capacity(&self) -> u64
-        ensures value { result ≡ (means self.now).capacity }
-        ensures bound { result ≤ 4096 };
+        ensures { result ≡ (means self.now).capacity };
 
     fn safe_count(&self) -> u64
-        ensures value { result ≡ (means self.now).safe }
-        ensures bound { result ≤ length (means self.now).records };
+        ensures { result ≡ (means self.now).safe };
 
     fn is_alive(&self) -> bool
         ensures { result ≡ (means self.now).alive };
-}
 
-// How many records a store has room for yet.
-pub fn free_slots<S: Store>(store: &S) -> u64
-    ensures { result ≡ room (S.Store.means store.now) }
-{
-    store.capacity().saturating_sub(store.count())
-}
+    // How many records there is room for yet.
+    fn free_slots(&self) -> u64
+        ensures { result ≡ room (means self.now) }
+    {
+        self.capacity().saturating_sub(self.count())
+    }
 
-// The law that what is safe lasts; there is nothing to run.
-fn safe_records_last()
-    ensures { SafeRecordsLast }
-{}
+    // How many records stand whatever is called and whenever the power goes.
+    fn lasting_count(&self) -> u64
+        ensures value { result ≡ (means self.now).safe }
+        ensures lasting { Lasting (means self.now) }
+    {
+        self.safe_count()
+    }
 
-// How many records of a store stand whatever is called and whenever the power goes.
-pub fn lasting_count<S: Store>(store: &S) -> u64
-    ensures value { result ≡ (S.Store.means store.now).safe }
-    ensures lasting { Lasting (S.Store.means store.now) }
-{
-    safe_records_last();
-    store.safe_count()
+    ghost sound: { (s : Self) → Sound (means s) };
 }
