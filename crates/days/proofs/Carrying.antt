@@ -1,10 +1,10 @@
 -- An input and the deliveries after it are one list of moves.
-use Rattle.std.proofs.Common.{◌≡◌, ℕ, ◌≤◌, List, ◌∷◌, ◌++◌, length, drop, Ok, Err, Result, sym, ap, ◌∙◌, subst, inr, arith}
+use Rattle.std.proofs.Common.{◌≡◌, ℕ, ◌≤◌, List, [], ◌∷◌, ◌++◌, length, drop, Ok, Err, Result, sym, ap, ◌∙◌, subst, inr, arith}
 use Rattle.std.proofs.lemmas.List.{append_assoc, length-append, drop_at}
 use Rattle.programs.specs.Orders.{orders}
 use Rattle.programs.specs.Program.{Meaning}
 use Rattle.runs.specs.Answers.{Advanced, Delivered, Settles, Grown}
-use Rattle.runs.specs.Run.{Configuration, Move, Makes, Leads, stays, goes_on}
+use Rattle.runs.specs.Run.{Configuration, Fresh, Run, Move, Makes, Leads, stays, goes_on}
 use Rattle.runs.specs.declared.runner.Output.{Output}
 use Rattle.runs.specs.declared.runner.RunError.{RunError}
 use Rattle.runs.specs.declared.runner.RunError.TheVariants.{ProcessCount, NoSuchProcess, NothingWaiting, Unsettled, Memory}
@@ -13,6 +13,10 @@ use Rattle.days.specs.Shop.{Carried, Carries, Told, input, standing, issued, pie
 use Rattle.days.specs.declared.entry.Entry.{Entry}
 use Rattle.days.specs.declared.event.Event.{Event}
 use Rattle.days.specs.declared.shop.Shop.{Shop}
+
+-- a run begins with no move
+pub begun : (M : Meaning) (N : ℕ) (c : Configuration) → Fresh M N c → Run M N [] c
+begun M N c fresh = (c, (fresh, stays))
 
 leads_first : {M : Meaning} {N : ℕ} (m : Move) {ms : List Move} {a b c : Configuration} → Makes M N m a b → Leads M N ms b c → Leads M N (m ∷ ms) a c
 leads_first m first stays = goes_on stays m first

@@ -5,11 +5,6 @@ use Rattle.programs.specs.declared.orders.Order.{Order}
 use Rattle.runs.specs.declared.runner.Output.{Output}
 use Rattle.days.specs.declared.entry.Entry.{Entry}
 use Rattle.days.specs.declared.entry.Entry.TheVariants.{Stock, Placed}
-use Rattle.days.specs.declared.event.Confirmation.{Confirmation}
-use Rattle.days.specs.declared.event.Delivery.{Delivery}
-use Rattle.days.specs.declared.event.PickingNote.{PickingNote}
-use Rattle.days.specs.declared.event.Remainder.{Remainder}
-use Rattle.days.specs.declared.event.Shortage.{Shortage}
 use Rattle.days.specs.declared.event.Event.{Event}
 use Rattle.days.specs.declared.event.Event.TheVariants.{Delivered, Picked, Confirmed, Refused, Left}
 
@@ -20,32 +15,32 @@ order_of v = record { number = order_number v; quantity = order_quantity v }
 -- an output of dispatch is a picking note; one of intake confirms, but refuses if it has no pieces and some were wanted
 abbrev pub event_of : Order → ℕ → Output → Event
 event_of wanted shelf o =
-    cond (o.process == 2) (Picked (record { 0 = order_of o.value }))
-    (cond (order_quantity o.value == 0 && not (wanted.quantity == 0)) (Refused (record { order = wanted; shelf = shelf })) (Confirmed (record { 0 = order_of o.value })))
+    cond (o.process == 2) (Picked (order_of o.value))
+    (cond (order_quantity o.value == 0 && not (wanted.quantity == 0)) (Refused wanted shelf) (Confirmed (order_of o.value)))
 
 -- by the entry, what came out for it, and what is on the shelf then
 abbrev pub told : Entry → List Output → ℕ → List Event
-told (Stock pieces) os shelf = Delivered (record { pieces = pieces; shelf = shelf }) ∷ []
-told (Placed wanted) os shelf = map (event_of wanted shelf) os ++ (Left (record { shelf = shelf }) ∷ [])
+told (Stock pieces) os shelf = Delivered pieces shelf ∷ []
+told (Placed wanted) os shelf = map (event_of wanted shelf) os ++ (Left shelf ∷ [])
 
-abbrev pub delivery_text : Delivery → List ℕ
-delivery_text d = codes "stock: " ++ (decimal d.pieces ++ (codes " pieces delivered, " ++ (decimal d.shelf ++ codes " on the shelf")))
+abbrev pub delivery_text : ℕ → ℕ → List ℕ
+delivery_text pieces shelf = codes "stock: " ++ (decimal pieces ++ (codes " pieces delivered, " ++ (decimal shelf ++ codes " on the shelf")))
 
-abbrev pub picking_text : PickingNote → List ℕ
-picking_text n = codes "order " ++ (decimal n.0.number ++ (codes ": picking note for " ++ (decimal n.0.quantity ++ codes " pieces")))
+abbrev pub picking_text : Order → List ℕ
+picking_text o = codes "order " ++ (decimal o.number ++ (codes ": picking note for " ++ (decimal o.quantity ++ codes " pieces")))
 
-abbrev pub confirmation_text : Confirmation → List ℕ
-confirmation_text c = codes "order " ++ (decimal c.0.number ++ (codes ": confirmed with " ++ (decimal c.0.quantity ++ codes " pieces")))
+abbrev pub confirmation_text : Order → List ℕ
+confirmation_text o = codes "order " ++ (decimal o.number ++ (codes ": confirmed with " ++ (decimal o.quantity ++ codes " pieces")))
 
-abbrev pub shortage_text : Shortage → List ℕ
-shortage_text s = codes "order " ++ (decimal s.order.number ++ (codes ": refused, " ++ (decimal s.order.quantity ++ (codes " pieces wanted and " ++ (decimal s.shelf ++ codes " on the shelf")))))
+abbrev pub shortage_text : Order → ℕ → List ℕ
+shortage_text o shelf = codes "order " ++ (decimal o.number ++ (codes ": refused, " ++ (decimal o.quantity ++ (codes " pieces wanted and " ++ (decimal shelf ++ codes " on the shelf")))))
 
-abbrev pub remainder_text : Remainder → List ℕ
-remainder_text r = codes "stock: " ++ (decimal r.shelf ++ codes " left on the shelf")
+abbrev pub remainder_text : ℕ → List ℕ
+remainder_text shelf = codes "stock: " ++ (decimal shelf ++ codes " left on the shelf")
 
 abbrev pub text_of : Event → List ℕ
-text_of (Delivered d) = delivery_text d
-text_of (Picked n) = picking_text n
-text_of (Confirmed c) = confirmation_text c
-text_of (Refused s) = shortage_text s
-text_of (Left r) = remainder_text r
+text_of (Delivered pieces shelf) = delivery_text pieces shelf
+text_of (Picked o) = picking_text o
+text_of (Confirmed o) = confirmation_text o
+text_of (Refused o shelf) = shortage_text o shelf
+text_of (Left shelf) = remainder_text shelf

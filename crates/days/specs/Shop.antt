@@ -1,7 +1,7 @@
 -- What an entry does to the run of the order program.
 use Rattle.std.specs.Prelude.{◌≡◌, ℕ, ◌-◌, ◌^◌, ◌⊎◌, List, [], ◌∷◌, ◌++◌, length, Ok, Err, vec_items, Result, Vec}
 use Rattle.std.specs.declared.alloc.Global.{Global}
-use Rattle.std.specs.List.{AllByRecursion}
+use Rattle.std.specs.List.{All}
 use Rattle.programs.specs.Orders.{orders, order_value}
 use Rattle.runs.specs.Answers.{Advanced, Quiet, Delivery, Grown}
 use Rattle.runs.specs.Held.{configuration, Unchanged}
@@ -43,7 +43,7 @@ input (Placed o) = took 0 (order_value o.number o.quantity)
 
 -- the entry was put in, and messages were delivered
 pub record Carried (e : Entry) (ms : List Move) (a b : Shop) : Type 0 where
-  pub deliveries : AllByRecursion Delivery ms
+  pub deliveries : All Delivery ms
   pub moves : Leads orders 3 (input e ∷ ms) (standing a) (standing b)
   pub grown : Grown a.run b.run
 

@@ -5,6 +5,7 @@ ghost use Rattle.days.specs.Entry.{Number, Spells, Reads, bad_text};
 
 use programs::orders::Order;
 use std::fmt;
+use std::str::FromStr;
 
 #[derive(Clone, Copy)]
 pub enum Entry {
@@ -22,20 +23,14 @@ pub enum BadLine {
     BadNumber,
 }
 
-fn words(bad: BadLine) -> &'static str
-    ensures { result.now ≡ bad_text bad }
-{
-    match bad {
-        BadLine::NoSuchWord => "neither 'stock PIECES' nor 'order NUMBER PIECES'",
-        BadLine::BadNumber => "not as many whole numbers below 4294967296 as wanted",
-    }
-}
-
 impl BadLine {
     pub fn text(&self) -> &'static str
         ensures { result.now ≡ bad_text self.now }
     {
-        words(*self)
+        match self {
+            BadLine::NoSuchWord => "neither 'stock PIECES' nor 'order NUMBER PIECES'",
+            BadLine::BadNumber => "not as many whole numbers below 4294967296 as wanted",
+        }
     }
 }
 
@@ -50,36 +45,36 @@ impl fmt::Display for BadLine {
 fn read_number(text: &str) -> Option<u32>
     ensures { MatchOption result ((n : ℕ) → Number text.now n → ⊥) (λ n. Number text.now n) }
 {
-    match text.parse::<u32>() {
-        Ok(n) => Some(n),
-        Err(_) => None,
-    }
+    text.parse().ok()
 }
 
+#[tactic(auto, using(crate::proofs::Splits::no_split, crate::proofs::Splits::numbers, crate::proofs::Splits::spells))]
 fn read_order(text: &str) -> Option<Order>
     ensures { MatchOption result ((o : Parts) → Spells text.now o → ⊥) (λ o. Spells text.now o) }
 {
     let (number, quantity) = text.split_once(' ')?;
-    let number = read_number(number)?;
-    let quantity = read_number(quantity)?;
-    Some(Order { number, quantity })
+    Some(Order {
+        number: read_number(number)?,
+        quantity: read_number(quantity)?,
+    })
 }
 
 // What a line says.
-pub fn read_entry(line: &str) -> Result<Entry, BadLine>
-    ensures { Reads line.now result }
-{
-    if let Some(text) = line.strip_prefix("stock ") {
-        return match read_number(text) {
-            Some(pieces) => Ok(Entry::Stock(pieces)),
-            None => Err(BadLine::BadNumber),
-        };
+impl FromStr for Entry {
+    type Err = BadLine;
+
+    ghost from_str_gives = { Reads };
+
+    #[tactic(auto, using(crate::proofs::Words::no_stock, crate::proofs::Words::no_order))]
+    fn from_str(line: &str) -> Result<Entry, BadLine> {
+        if let Some(text) = line.strip_prefix("stock ") {
+            let pieces = read_number(text).ok_or(BadLine::BadNumber)?;
+            return Ok(Entry::Stock(pieces));
+        }
+        if let Some(text) = line.strip_prefix("order ") {
+            let order = read_order(text).ok_or(BadLine::BadNumber)?;
+            return Ok(Entry::Placed(order));
+        }
+        Err(BadLine::NoSuchWord)
     }
-    if let Some(text) = line.strip_prefix("order ") {
-        return match read_order(text) {
-            Some(order) => Ok(Entry::Placed(order)),
-            None => Err(BadLine::BadNumber),
-        };
-    }
-    Err(BadLine::NoSuchWord)
 }

@@ -3,6 +3,7 @@ use programs::orders::{Order, Orders};
 use programs::program::Program;
 use programs::relay::Relay;
 use programs::values::{OUTSIDE, Send, Sends, State};
+use std::test::Fail;
 
 fn order(number: u32, quantity: u32) -> u64 {
     u64::from(Order { number, quantity })
@@ -104,15 +105,11 @@ fn other_sources_do_nothing(rt: HostRuntime) {
         (7, 1),
     ];
     for (process, source) in cases {
-        let (after, sends, output) = Orders.step(process, state, source, order(1, 1));
-        assert_eq!(rt; after, state);
-        assert_eq!(rt; sends, Sends::Nothing);
-        assert_eq!(rt; output, None);
+        let step = Orders.step(process, state, source, order(1, 1));
+        assert_eq!(rt; step, (state, Sends::Nothing, None));
     }
-    let (after, sends, output) = Relay.step(3, state, OUTSIDE, 256);
-    assert_eq!(rt; after, state);
-    assert_eq!(rt; sends, Sends::Nothing);
-    assert_eq!(rt; output, None);
+    let step = Relay.step(3, state, OUTSIDE, 256);
+    assert_eq!(rt; step, (state, Sends::Nothing, None));
 }
 
 // The first bit of b moves to its end.
@@ -138,4 +135,30 @@ fn relay_rotates_to_the_left(rt: HostRuntime) {
             value: 5,
         })
     );
+}
+
+// Two sends, told apart by their targets, and taken in their order.
+#[test]
+fn sends_are_picked_in_order(rt: HostRuntime) -> Result<(), Fail> {
+    let note = Send {
+        target: 2,
+        value: 7,
+    };
+    let answer = Send {
+        target: 0,
+        value: 7,
+    };
+    let both = Sends::Two(note, answer);
+    assert_eq!(rt; both.filter(|m| m.target == 0), Sends::One(answer));
+    assert_eq!(rt; both.within(3), both);
+    assert_eq!(rt; both.within(2), Sends::One(answer));
+    assert_eq!(rt; both.len(), 2);
+    assert_eq!(rt; both.get(1), Some(answer));
+    assert_eq!(rt; both.get(2), None);
+    let mut targets = Vec::new(rt.alloc());
+    for m in both {
+        targets.push(m.target)?;
+    }
+    assert_eq!(rt; targets.as_slice(), [2, 0].as_slice());
+    Ok(())
 }

@@ -1,6 +1,7 @@
 // Two days, told line by line, and lines that say nothing.
-use days::entry::read_entry;
+use days::entry::Entry;
 use days::shop::Shop;
+use std::fmt::Write;
 use std::test::Fail;
 
 // What is told of a day, a line for each event.
@@ -8,11 +9,10 @@ fn story(rt: &HostRuntime, day: &[&str]) -> Result<String, Fail> {
     let mut shop = Shop::open(rt.alloc())?;
     let mut text = String::new(rt.alloc());
     for line in day {
-        match read_entry(line) {
+        match line.parse::<Entry>() {
             Ok(entry) => {
                 for event in shop.play(rt.alloc(), entry)?.iter() {
-                    text.push_str(event.to_string(rt.alloc())?.as_str())?;
-                    text.push_str("\n")?;
+                    writeln!(text, "{event}")?;
                 }
             }
             Err(bad) => text.push_str(bad.text())?,
@@ -44,7 +44,7 @@ fn a_poor_day(rt: HostRuntime) -> Result<(), Fail> {
 #[test]
 fn bad_lines_are_refused(rt: HostRuntime) -> Result<(), Fail> {
     for line in ["", "stock", "stocks 1", " stock 1", "Order 1 1", "sell 1"] {
-        assert!(rt; read_entry(line).err().is_some());
+        assert!(rt; line.parse::<Entry>().is_err());
     }
     for line in [
         "stock ",
@@ -57,13 +57,10 @@ fn bad_lines_are_refused(rt: HostRuntime) -> Result<(), Fail> {
         "order  1 1",
         "order 1 1 1",
     ] {
-        match read_entry(line) {
-            Ok(_) => return Err(Fail::new(line)),
-            Err(bad) => assert_eq!(rt;
-                bad.text(),
-                "not as many whole numbers below 4294967296 as wanted"
-            ),
-        }
+        assert_eq!(rt;
+            line.parse::<Entry>().err().map(|bad| bad.text()),
+            Some("not as many whole numbers below 4294967296 as wanted")
+        );
     }
     Ok(())
 }

@@ -1,13 +1,12 @@
 -- What a push and a removal do to the channels of a list of messages, and a push to the outputs.
-use Rattle.std.proofs.Common.{◌≡◌, ℕ, suc, ◌+◌, ◌-◌, ◌<◌, ◌≤◌, Bool, true, ◌&&◌, eqb, ltb, ◌⊎◌, List, [], ◌∷◌, ◌++◌, map, length, get_or, take, drop, Some, None, filter, Option, sym, refl, ap, ◌∙◌, inl, inr, arith, drop-cons}
+use Rattle.std.proofs.Common.{◌≡◌, ℕ, suc, ◌<◌, ◌≤◌, Bool, true, false, ◌&&◌, eqb, List, [], ◌∷◌, ◌++◌, map, length, get_or, take, drop, Some, None, filter, Option, sym, refl, ap, ◌∙◌, arith, drop-cons}
 use Rattle.std.specs.Option.{option_to_list}
-use Rattle.std.specs.List.{AllByRecursion}
+use Rattle.std.specs.List.{position, position_or_len}
 use Rattle.std.proofs.lemmas.List.Elements.{filter-append}
-use Rattle.std.proofs.ByRecursion.{kept_by_passes, All-get_or, All-map, All-weaker}
-use Rattle.std.proofs.lemmas.List.{map-append, take-append-drop, take_more, get_or_default, get_or_append_left, get_or-append_right, length-append}
-use Rattle.std.proofs.lemmas.Bool.{cases_lt, ltb-true}
+use Rattle.std.proofs.lemmas.List.Quantifiers.{position-Some}
+use Rattle.std.proofs.lemmas.List.{map-append, take-append-drop, take_all, get_or_default}
+use Rattle.std.proofs.Math.Numerals.{one-add}
 use Rattle.std.proofs.lemmas.Bool.Decides.{nat_tests}
-use Rattle.programs.specs.Values.{reaching}
 use Rattle.programs.specs.declared.values.Send.{Send}
 use Rattle.runs.specs.Run.{sent_to}
 use Rattle.runs.specs.Held.{channel, outputs_of}
@@ -37,27 +36,56 @@ pub channel_others : (q p r : ℕ) (ms : List Send) → (q ≡ p → ⊥) → ch
 channel_others q p r [] n = refl
 channel_others q p r (m ∷ ms) n = let more = channel_others q p r ms n in grind (arith, nat_tests)
 
-module _ (q p i : ℕ) (ms : List Message) (d : Message) (within : i < length ms) (none : channel q p (take i ms) ≡ []) where
-  apart : ms ≡ take i ms ++ (get_or ms i d ∷ drop (suc i) ms)
-  apart = sym (take-append-drop i ms) ∙ ap (λ ys. take i ms ++ ys) (drop-cons ms i d within)
+-- before the place of the first that passes none passes
+before_first : {X : Type 0} (test : X → Bool) (xs : List X) → filter test (take (position_or_len test xs) xs) ≡ []
+before_first test [] = refl
+before_first test (x ∷ xs) = go (test x) refl (before_first test xs)
+  where
+    go : (b : Bool) → test x ≡ b → filter test (take (position_or_len test xs) xs) ≡ [] → filter test (take (position_or_len test (x ∷ xs)) (x ∷ xs)) ≡ []
+    go true e more = rw e refl
+    go false e more = simp (e, one-add) more
+
+-- a channel with no message is empty
+pub none_waits : (q p : ℕ) (ms : List Message) → position (λ m. eqb m.source q && eqb m.target p) ms ≡ None → channel q p ms ≡ []
+none_waits q p ms e =
+    let whole : length ms ≤ position_or_len (λ m. eqb m.source q && eqb m.target p) ms = grind (arith, nat_tests) in
+    ap (channel q p) (sym (take_all (position_or_len (λ (m : Message). eqb m.source q && eqb m.target p) ms) ms whole))
+    ∙ ap (map (λ m. m.value)) (before_first (λ m. eqb m.source q && eqb m.target p) ms)
+
+module _ (q p i : ℕ) (ms : List Message) (found : position (λ m. eqb m.source q && eqb m.target p) ms ≡ Some i) where
+  d : Message
+  d = record { source = 0; target = 0; value = 0 }
 
   -- the first message of a channel can be taken out
-  pub frees : (get_or ms i d).source ≡ q → (get_or ms i d).target ≡ p → Frees q p i ms
-  frees f g = record {
+  pub frees : Frees q p i ms
+  frees = record {
     within = within;
     first = λ e. ap (channel q p) apart ∙ channel_append q p (take i ms) (get_or ms i d ∷ drop (suc i) ms)
-        ∙ ap (λ vs. vs ++ channel q p (get_or ms i d ∷ drop (suc i) ms)) none ∙ channel_here q p (get_or ms i d) (drop (suc i) ms) f g
+        ∙ ap (λ vs. vs ++ channel q p (get_or ms i d ∷ drop (suc i) ms)) none ∙ channel_here q p (get_or ms i d) (drop (suc i) ms) here.0 here.1
         ∙ ap (λ v. v ∷ channel q p (drop (suc i) ms)) (ap (λ (m : Message). m.value) (get_or_default ms i d e within))
         ∙ ap (λ vs. (get_or ms i e).value ∷ vs) (sym (channel_append q p (take i ms) (drop (suc i) ms) ∙ ap (λ vs. vs ++ channel q p (drop (suc i) ms)) none));
     others = λ r s n. channel_append r s (take i ms) (drop (suc i) ms)
-        ∙ ap (λ vs. channel r s (take i ms) ++ vs) (sym (channel_elsewhere r s (get_or ms i d) (drop (suc i) ms) (λ k. n (k.0 ∙ f, k.1 ∙ g))))
+        ∙ ap (λ vs. channel r s (take i ms) ++ vs) (sym (channel_elsewhere r s (get_or ms i d) (drop (suc i) ms) (λ k. n (k.0 ∙ here.0, k.1 ∙ here.1))))
         ∙ sym (ap (channel r s) apart ∙ channel_append r s (take i ms) (get_or ms i d ∷ drop (suc i) ms));
   }
+    where
+      within : i < length ms
+      within = (position-Some (λ m. eqb m.source q && eqb m.target p) ms i d found).0
 
-  -- a message of another channel is passed
-  pub passed : ((q ≡ (get_or ms i d).source) × (p ≡ (get_or ms i d).target) → ⊥) → channel q p (take (i + 1) ms) ≡ []
-  passed n = ap (channel q p) (take_more ms i d within) ∙ channel_append q p (take i ms) (get_or ms i d ∷ [])
-      ∙ ap (λ vs. vs ++ channel q p (get_or ms i d ∷ [])) none ∙ channel_elsewhere q p (get_or ms i d) [] n
+      passes : (eqb (get_or ms i d).source q && eqb (get_or ms i d).target p) ≡ true
+      passes = (position-Some (λ m. eqb m.source q && eqb m.target p) ms i d found).1
+
+      here : ((get_or ms i d).source ≡ q) × ((get_or ms i d).target ≡ p)
+      here = (grind (arith, nat_tests, passes), grind (arith, nat_tests, passes))
+
+      place : position_or_len (λ m. eqb m.source q && eqb m.target p) ms ≡ i
+      place = grind (arith, nat_tests, found)
+
+      none : channel q p (take i ms) ≡ []
+      none = ap (λ n. channel q p (take n ms)) (sym place) ∙ ap (map (λ m. m.value)) (before_first (λ m. eqb m.source q && eqb m.target p) ms)
+
+      apart : ms ≡ take i ms ++ (get_or ms i d ∷ drop (suc i) ms)
+      apart = sym (take-append-drop i ms) ∙ ap (λ ys. take i ms ++ ys) (drop-cons ms i d within)
 
 pub outputs_append : (p : ℕ) (xs ys : List Output) → outputs_of p (xs ++ ys) ≡ outputs_of p xs ++ outputs_of p ys
 outputs_append p xs ys = picked_append (λ o. o.value) (λ o. eqb o.process p) xs ys
@@ -69,22 +97,3 @@ outputs_own p (Some v) = grind (arith, nat_tests)
 pub outputs_others : (r p : ℕ) (o : Option ℕ) → (r ≡ p → ⊥) → outputs_of r (map (output p) (option_to_list o)) ≡ []
 outputs_others r p None n = refl
 outputs_others r p (Some v) n = grind (arith, nat_tests)
-
--- a bound on a field of each message lasts over a push; the two lengths are those of the lists
-pub pushed_below : (field : Message → ℕ) (n : ℕ) (old new all : List Message) (before after : ℕ) → before ≡ length old → after ≡ length all → all ≡ old ++ new →
-    ((k : ℕ) (d : Message) → k < before → field (get_or old k d) < n) → AllByRecursion (λ m. field m < n) new → (k : ℕ) (d : Message) → k < after → field (get_or all k d) < n
-pushed_below field n old new all before after e f joined bound fresh k d h = rw joined (go (cases_lt k (length old)))
-  where
-    go : (k < length old) ⊎ (length old ≤ k) → field (get_or (old ++ new) k d) < n
-    go (inl a) = rw (get_or_append_left old new d k a) (bound k d (omega arith))
-    go (inr a) =
-        let within : k - length old < length new = omega (arith, simp length-append at (ap length joined)) in
-        rw (get_or-append_right old new (length old) k d refl a) (All-get_or (λ m. field m < n) new (k - length old) d within fresh)
-
-pub own_sources : (p n : ℕ) (ms : List Send) → p < n → AllByRecursion (λ m. m.source < n) (map (message p) ms)
-own_sources p n [] h = tt
-own_sources p n (m ∷ ms) h = (h, own_sources p n ms h)
-
-pub reached_targets : (p n : ℕ) (ms all : List Send) → ms ≡ reaching n all → AllByRecursion (λ m. m.target < n) (map (message p) ms)
-reached_targets p n ms all e = All-map (λ (m : Message). m.target < n) (message p) ms
-    (rw e (All-weaker (λ m. ltb m.target n ≡ true) (λ m. m.target < n) (λ m h. ltb-true m.target n h) (reaching n all) (kept_by_passes (λ m. ltb m.target n) all)))

@@ -1,17 +1,19 @@
 -- What a runner's lists do in a step is what the configurations do in a move.
-use Rattle.std.proofs.Common.{◌≡◌, ℕ, ◌<◌, List, [], ◌∷◌, ◌++◌, map, length, get_or, set, vec_items, vec_len, sym, ap, ◌∙◌, subst, arith}
+use Rattle.std.proofs.Common.{◌≡◌, ℕ, ◌<◌, List, [], ◌∷◌, ◌++◌, map, length, get_or, set, Ok, Err, Result, vec_items, vec_len, sym, refl, ap, ◌∙◌, subst, arith}
 use Rattle.std.specs.List.{remove}
 use Rattle.std.specs.Option.{option_to_list}
 use Rattle.std.proofs.lemmas.List.{append-nil, get_or-set_same, get_or-set_other, length-set}
+use Rattle.std.proofs.lemmas.List.Edits.{remove-append_left}
 use Rattle.programs.specs.Program.{Meaning, zeros}
 use Rattle.programs.specs.Values.{listed, reaching}
 use Rattle.programs.specs.declared.values.State.{State}
-use Rattle.runs.specs.Answers.{Advanced}
-use Rattle.runs.specs.Held.{count, channel, outputs_of, of_lists, configuration, Unchanged}
-use Rattle.runs.specs.Inside.{message, output, Frees, Stepped}
-use Rattle.runs.specs.Run.{Steps, Move, took, moved, Makes}
+use Rattle.runs.specs.Answers.{Advanced, Takes}
+use Rattle.runs.specs.Held.{count, channel, outputs_of, of_lists, configuration}
+use Rattle.runs.specs.Inside.{message, output, Frees, Stepped, StepsOrNot}
+use Rattle.runs.specs.Run.{Steps, took, moved}
 use Rattle.runs.specs.declared.runner.Message.{Message}
 use Rattle.runs.specs.declared.runner.Output.{Output}
+use Rattle.runs.specs.declared.runner.RunError.{RunError}
 use Rattle.runs.specs.declared.runner.Runner.{Runner}
 use Rattle.runs.proofs.Channels.{channel_append, channel_own, channel_others, outputs_append, outputs_own, outputs_others}
 
@@ -40,58 +42,53 @@ same_lists_configuration {ss} {ss'} {ms} {ms'} {os} {os'} e f g = ap (λ x. of_l
 pub same_count : {P : Type 0} (a b : Runner P) → length (vec_items b.states) ≡ length (vec_items a.states) → count b ≡ count a
 same_count a b e = b.states.ok.0 ∙ e ∙ sym a.states.ok.0
 
-steps : {P : Type 0} (M : Meaning) (p source value : ℕ) (a b : Runner P) → p < count a → Stepped M p source value a b → Steps M (count a) p source value (configuration a) (configuration b)
-steps M p source value a b exists s =
-    subst (Steps M (count a) p source value (configuration a)) (sym (same_lists_configuration s.states s.waiting s.outputs))
-    (steps_lists M (count a) p source value (vec_items a.states) (vec_items a.waiting) (vec_items a.outputs) exists (subst (λ n. p < n) a.states.ok.0 exists))
+module _ {P : Type 0} (M : Meaning) (p source value : ℕ) (a b : Runner P) (exists : p < count a) (s : Stepped M p source value a b) where
+  steps_count : count b ≡ count a
+  steps_count = same_count a b (ap length s.states ∙ length-set (vec_items a.states) p _)
 
-steps_count : {P : Type 0} (M : Meaning) (p source value : ℕ) (a b : Runner P) → Stepped M p source value a b → count b ≡ count a
-steps_count M p source value a b s = same_count a b (ap length s.states ∙ length-set (vec_items a.states) p _)
+  within : p < length (vec_items a.states)
+  within = subst (λ n. p < n) a.states.ok.0 exists
 
-pub takes : {P : Type 0} (M : Meaning) (p value : ℕ) (a b : Runner P) → p < count a → Stepped M p 8 value a b → Advanced M (took p value) a b
-takes M p value a b exists s =
-    record { program = s.program; processes = steps_count M p 8 value a b s; move = steps M p 8 value a b exists s; grown = (_, s.outputs) }
+  takes : source ≡ 8 → Advanced M (took p value) a b
+  takes e = record {
+    program = s.program;
+    processes = steps_count;
+    move = subst (λ q. Steps M (count a) p q value (configuration a) (configuration b)) e
+        (subst (Steps M (count a) p source value (configuration a)) (sym (same_lists_configuration s.states s.waiting s.outputs))
+        (steps_lists M (count a) p source value (vec_items a.states) (vec_items a.waiting) (vec_items a.outputs) exists within));
+    grown = (_, s.outputs);
+  }
 
--- b is a without its message at i, and c is b after the step
-pub moves : {P : Type 0} (M : Meaning) (q p i value : ℕ) (a b c : Runner P) → p < count a → Frees q p i (vec_items a.waiting) →
-    ((d : Message) → value ≡ (get_or (vec_items a.waiting) i d).value) → b.program ≡ a.program → b.states ≡ a.states → b.outputs ≡ a.outputs →
-    vec_items b.waiting ≡ remove (vec_items a.waiting) i → Stepped M p q value b c → Advanced M (moved q p value) a c
-moves M q p i value a b c exists free read program states outputs rest s =
-    let left : channel q p (vec_items b.waiting) ≡ channel q p (remove (vec_items a.waiting) i) = ap (channel q p) rest in
-    let processes : count b ≡ count a = ap vec_len states in
-    record {
-      program = s.program ∙ program;
-      processes = steps_count M p q value b c s ∙ processes;
-      move = (
-        configuration b,
-        (
-          record {
-            first = free.first record { source = 0; target = 0; value = 0 } ∙ ap (λ v. v ∷ channel q p (remove (vec_items a.waiting) i)) (sym (read _)) ∙ ap (λ vs. value ∷ vs) (sym left);
-            channels = λ r t n. ap (channel r t) rest ∙ free.others r t n;
-            states = λ r. ap (λ v. get_or (vec_items v) r zeros) states;
-            silent = λ r. ap (λ v. outputs_of r (vec_items v)) outputs;
-          },
-          subst (λ n. Steps M n p q value (configuration b) (configuration c)) processes (steps M p q value b c (subst (λ n. p < n) (sym processes) exists) s),
-        ),
-      );
-      grown = (_, s.outputs ∙ ap (λ v. vec_items v ++ map (output p) (option_to_list (M.step p (get_or (vec_items b.states) p zeros) q value).2)) outputs);
-    }
+  -- c is b without the message at i, which was there before the step
+  pub moves : (i : ℕ) (c : Runner P) → Frees source p i (vec_items a.waiting) → ((d : Message) → value ≡ (get_or (vec_items a.waiting) i d).value) →
+      c.program ≡ b.program → c.states ≡ b.states → c.outputs ≡ b.outputs → vec_items c.waiting ≡ remove (vec_items b.waiting) i → Advanced M (moved source p value) a c
+  moves i c free read program states outputs rest =
+      let sends = map (message p) (reaching (count a) (listed (M.step p (get_or (vec_items a.states) p zeros) source value).1)) in
+      let left : vec_items c.waiting ≡ remove (vec_items a.waiting) i ++ sends = rest ∙ ap (λ ms. remove ms i) s.waiting ∙ remove-append_left (vec_items a.waiting) sends i free.within in
+      record {
+        program = program ∙ s.program;
+        processes = ap vec_len states ∙ steps_count;
+        move = (
+          of_lists (vec_items a.states) (remove (vec_items a.waiting) i) (vec_items a.outputs),
+          (
+            record {
+              first = free.first record { source = 0; target = 0; value = 0 } ∙ ap (λ v. v ∷ channel source p (remove (vec_items a.waiting) i)) (sym (read _));
+              channels = free.others;
+              states = λ r. refl;
+              silent = λ r. refl;
+            },
+            subst (Steps M (count a) p source value (of_lists (vec_items a.states) (remove (vec_items a.waiting) i) (vec_items a.outputs)))
+                (sym (same_lists_configuration (ap vec_items states ∙ s.states) left (ap vec_items outputs ∙ s.outputs)))
+                (steps_lists M (count a) p source value (vec_items a.states) (remove (vec_items a.waiting) i) (vec_items a.outputs) exists within),
+          ),
+        );
+        grown = (_, ap vec_items outputs ∙ s.outputs);
+      }
 
--- what was made from a runner that is as before was made from the one before
-pub advanced_from : {P : Type 0} (M : P → Meaning) (m : Move) (a b c : Runner P) → Unchanged a b → Advanced (M b.program) m b c → Advanced (M a.program) m a c
-advanced_from M m a b c same done =
-    let processes : count b ≡ count a = same_count a b (ap length same.states) in
-    record {
-      program = done.program ∙ same.program;
-      processes = done.processes ∙ processes;
-      move = subst (λ x. Makes (M x) (count a) m (configuration a) (configuration c)) same.program
-          (subst (λ n. Makes (M b.program) n m (configuration a) (configuration c)) processes
-          (subst (λ x. Makes (M b.program) (count b) m x (configuration c)) (same_lists_configuration same.states same.waiting same.outputs) done.move));
-      grown = (done.grown.0, done.grown.1 ∙ ap (λ os. os ++ done.grown.0) same.outputs);
-    }
-
-pub exists_still : {P : Type 0} (p : ℕ) (a b : Runner P) → Unchanged a b → p < count a → p < count b
-exists_still p a b same exists = subst (λ n. p < n) (sym (same_count a b (ap length same.states))) exists
+-- an input steps the process, or finds no memory
+pub takes_or_not : {P : Type 0} (M : Meaning) (p value : ℕ) (a b : Runner P) → p < count a → (r : Result (Unit {0}) RunError) → StepsOrNot M p 8 value a b r → Takes M p value a b r
+takes_or_not M p value a b exists (Ok _) s = takes M p 8 value a b exists s refl
+takes_or_not M p value a b exists (Err e) s = rw s.0 (exists, s.1)
 
 pub not_empty : (q p i : ℕ) (ms : List Message) → Frees q p i ms → channel q p ms ≡ [] → ⊥
 not_empty q p i ms free none = let taken = free.first record { source = 0; target = 0; value = 0 } in let z : ◌≡◌ {A = ℕ} 0 1 = cc in omega arith

@@ -1,6 +1,6 @@
 -- Deliveries one after the other, and what is known when they end.
 use Rattle.std.proofs.Common.{◌≡◌, ℕ, ◌<◌, List, [], ◌∷◌, ◌++◌, length, get_or, Err, vec_items, vec_len, sym, refl, ap, ◌∙◌, subst, inl, inr, arith}
-use Rattle.std.proofs.ByRecursion.{All-push}
+use Rattle.std.proofs.lemmas.List.Elements.{All-nil, All-push}
 use Rattle.std.proofs.lemmas.List.{append-nil, append_assoc, nil_from_length}
 use Rattle.programs.specs.Program.{Meaning}
 use Rattle.runs.specs.Answers.{Advanced, Moves, Quiet, Delivery, Delivered, Settles}
@@ -14,7 +14,7 @@ use Rattle.runs.proofs.Channels.{channel_here}
 use Rattle.runs.proofs.Moves.{same_count, same_lists_configuration}
 
 pub delivered_none : {P : Type 0} (M : Meaning) (a : Runner P) → Delivered M [] a a
-delivered_none M a = record { program = refl; processes = refl; deliveries = tt; moves = stays; grown = ([], sym (append-nil (vec_items a.outputs))) }
+delivered_none M a = record { program = refl; processes = refl; deliveries = All-nil Delivery; moves = stays; grown = ([], sym (append-nil (vec_items a.outputs))) }
 
 pub delivered_more : {P : Type 0} (M : P → Meaning) (q p v : ℕ) (ms : List Move) (a b c : Runner P) → Delivered (M a.program) ms a b → Advanced (M b.program) (moved q p v) b c →
     Delivered (M a.program) (ms ++ moved q p v ∷ []) a c
@@ -56,8 +56,8 @@ pub settles_refused : {P : Type 0} (M : P → Meaning) (limit : ℕ) (ms : List 
     0 < vec_len b.waiting → m ≡ get_or (vec_items b.waiting) 0 m → (e : RunError) → Moves (M b.program) m.source m.target b c (Err e) → Settles (M a.program) limit a c (Err e)
 settles_refused M limit ms a b c m done few some first ProcessCount why = why
 settles_refused M limit ms a b c m done few some first NoSuchProcess why =
-    let source : m.source < count b = subst (λ (x : Message). x.source < count b) (sym first) (b.sources 0 m some) in
-    let target : m.target < count b = subst (λ (x : Message). x.target < count b) (sym first) (b.targets 0 m some) in
+    let source : m.source < count b = subst (λ (x : Message). x.source < count b) (sym first) (b.sources 0 m (subst (λ n. 0 < n) b.waiting.ok.0 some)) in
+    let target : m.target < count b = subst (λ (x : Message). x.target < count b) (sym first) (b.targets 0 m (subst (λ n. 0 < n) b.waiting.ok.0 some)) in
     elim why.0 [ inl h ↦ omega arith | inr h ↦ omega arith ]
 settles_refused M limit ms a b c m done few some first Unsettled why = absurd why
 settles_refused M limit ms a b c m done few some first NothingWaiting why =

@@ -1,6 +1,6 @@
 -- What a runner's calls answer, and what they leave.
 use Rattle.std.specs.Prelude.{◌≡◌, ℕ, ◌<◌, ◌≤◌, ◌⊎◌, List, [], ◌++◌, length, Ok, Err, vec_items, Result, ◌≢◌}
-use Rattle.std.specs.List.{AllByRecursion}
+use Rattle.std.specs.List.{All}
 use Rattle.programs.specs.Program.{Meaning}
 use Rattle.runs.specs.Run.{Configuration, Move, took, moved, Makes, Leads, Fresh}
 use Rattle.runs.specs.Held.{count, configuration, Unchanged}
@@ -60,7 +60,7 @@ Delivery (moved q p v) = Unit {0}
 pub record Delivered {P : Type 0} (M : Meaning) (ms : List Move) (a b : Runner P) : Type 0 where
   pub program : b.program ≡ a.program
   pub processes : count b ≡ count a
-  pub deliveries : AllByRecursion Delivery ms
+  pub deliveries : All Delivery ms
   pub moves : Leads M (count a) ms (configuration a) (configuration b)
   pub grown : Grown a b
 

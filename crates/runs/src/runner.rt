@@ -1,6 +1,6 @@
 // The runner: a program's processes, what waits between them, and what they have put out.
-ghost use Rattle.std.specs.Prelude.{◌≡◌, ℕ, ◌<◌, ◌≤◌, Some, vec_len, slice_index_or};
-ghost use Rattle.runs.specs.declared.runner.Message.{Message as Sent};
+ghost use Rattle.std.specs.Prelude.{◌≡◌, ◌<◌, ◌≤◌, Some, vec_len};
+ghost use Rattle.std.specs.List.{All};
 ghost use Rattle.runs.specs.declared.runner.RunError.TheVariants.{Memory};
 ghost use Rattle.runs.specs.Texts.{error_text};
 
@@ -39,8 +39,8 @@ pub struct Runner<P> {
     outputs: Vec<Output>,
     ghost few: { vec_len states ≤ 8 },
     // what waits is between processes that exist
-    ghost sources: { (k : ℕ) (d : Sent) → k < vec_len waiting → (slice_index_or waiting.items k d).source < vec_len states },
-    ghost targets: { (k : ℕ) (d : Sent) → k < vec_len waiting → (slice_index_or waiting.items k d).target < vec_len states },
+    ghost sources: { All (λ m. m.source < vec_len states) waiting.items },
+    ghost targets: { All (λ m. m.target < vec_len states) waiting.items },
 }
 
 // Why a runner was not made, or did not move: it is then as it was.
@@ -55,6 +55,7 @@ pub enum RunError {
     Memory,
 }
 
+// `reserve` fails with an `AllocError` and `push` with the value that it refused; `?` converts each by an impl of its own
 impl From<AllocError> for RunError {
     ghost from_gives = { λ _ r. r ≡ Memory };
 

@@ -13,31 +13,20 @@ use runs::runner::{RunError, Runner};
 use std::alloc::Global;
 
 impl Shop {
-    // A shop over a run of the three processes that has just begun.
-    fn over(run: Runner<Orders>) -> Shop
-        requires three { count run ≡ 3 }
-        requires begun { Fresh orders 3 (configuration run) }
-        ensures run { Run orders 3 [] (standing result) }
-        ensures issued { issued result ≡ run.outputs.items }
-    {
-        Shop { run }
-    }
-
     // An empty shelf, and no order yet.
+    #[tactic(auto, using(crate::proofs::Carrying::begun))]
     pub fn open(heap: Global) -> Result<Shop, RunError>
         ensures { Opens result }
     {
-        Ok(Shop::over(Runner::new(heap, Orders, 3)?))
+        let run = Runner::new(heap, Orders, 3)?;
+        Ok(Shop { run })
     }
 
     // The pieces on the shelf.
     pub fn shelf(&self) -> u64
         ensures { result ≡ pieces_left self.now }
     {
-        match self.run.state(STOCK) {
-            Some(stock) => stock.a,
-            None => 0,
-        }
+        self.run.state(STOCK).map_or(0, |stock| stock.a)
     }
 
     fn put_in(&mut self, entry: Entry) -> Result<(), RunError>
@@ -49,34 +38,13 @@ impl Shop {
         }
     }
 
-    fn carry_within(&mut self, entry: Entry, limit: u64) -> Result<(), RunError>
-        ensures { Carries limit entry self.old self.new result }
-    {
-        self.put_in(entry)?;
-        self.run.settle(limit)
-    }
-
     // Puts the entry in, and delivers what follows from it.
+    #[tactic(auto, using(crate::proofs::Carrying::carries))]
     pub fn carry(&mut self, entry: Entry) -> Result<(), RunError>
         ensures { Carries most entry self.old self.new result }
     {
-        self.carry_within(entry, u64::MAX)
-    }
-
-    // Carries the entry, and tells what came out behind the `before` outputs that there were.
-    fn play_after(
-        &mut self,
-        heap: Global,
-        entry: Entry,
-        before: usize,
-    ) -> Result<Vec<Event>, RunError>
-        requires { before ≡ length (issued self.old) }
-        ensures { Plays entry self.old self.new result }
-    {
-        self.carry(entry)?;
-        let shelf = self.shelf();
-        let (_, issued) = self.run.outputs().split_at(before);
-        Ok(tell(heap, entry, issued, shelf)?)
+        self.put_in(entry)?;
+        self.run.settle(u64::MAX)
     }
 
     // Carries the entry, and tells what was done.
@@ -84,6 +52,9 @@ impl Shop {
         ensures { Plays entry self.old self.new result }
     {
         let before = self.run.outputs().len();
-        self.play_after(heap, entry, before)
+        self.carry(entry)?;
+        let shelf = self.shelf();
+        let (_, issued) = self.run.outputs().split_at(before);
+        Ok(tell(heap, entry, issued, shelf)?)
     }
 }

@@ -13,6 +13,7 @@ impl<P: Program + Drop> Runner<P> {
         if count < 1 || count > 8 {
             return Err(RunError::ProcessCount);
         }
+        // a loop, since of a `collect` over the program's bound the proof finds the items, but not how many they are
         let mut states = Vec::new(heap);
         for p in 0..count {
             states.push(program.start(p))?;

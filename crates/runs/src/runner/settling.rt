@@ -5,8 +5,8 @@ use crate::runner::{RunError, Runner};
 use programs::program::Program;
 
 impl<P: Program> Runner<P> {
-    // Delivers the oldest message that waits, again and again, `limit` times at most.
-    fn deliver_oldest(&mut self, limit: u64) -> Result<(), RunError>
+    // Delivers the oldest message again and again until nothing waits; refused if `limit` deliveries are too few for that.
+    pub fn settle(&mut self, limit: u64) -> Result<(), RunError>
         ensures { Settles (P.Program.means self.old.program) limit self.old self.new result }
     {
         for _ in 0..limit {
@@ -20,12 +20,5 @@ impl<P: Program> Runner<P> {
         } else {
             Err(RunError::Unsettled)
         }
-    }
-
-    // Delivers until nothing waits; refused if `limit` deliveries are too few for that.
-    pub fn settle(&mut self, limit: u64) -> Result<(), RunError>
-        ensures { Settles (P.Program.means self.old.program) limit self.old self.new result }
-    {
-        self.deliver_oldest(limit)
     }
 }

@@ -4,22 +4,16 @@ ghost use Rattle.runs.specs.Texts.{error_text};
 
 use crate::runner::RunError;
 
-fn words(error: RunError) -> &'static str
-    ensures { result.now ≡ error_text error }
-{
-    match error {
-        RunError::ProcessCount => "a run has 1 to 8 processes",
-        RunError::NoSuchProcess => "there is no such process",
-        RunError::NothingWaiting => "no message waits there",
-        RunError::Unsettled => "messages still wait",
-        RunError::Memory => "out of memory",
-    }
-}
-
 impl RunError {
     pub fn text(&self) -> &'static str
         ensures { result.now ≡ error_text self.now }
     {
-        words(*self)
+        match self {
+            RunError::ProcessCount => "a run has 1 to 8 processes",
+            RunError::NoSuchProcess => "there is no such process",
+            RunError::NothingWaiting => "no message waits there",
+            RunError::Unsettled => "messages still wait",
+            RunError::Memory => "out of memory",
+        }
     }
 }

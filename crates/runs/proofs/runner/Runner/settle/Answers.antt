@@ -4,7 +4,7 @@ use Rattle.std.proofs.lemmas.Bool.{eqb-true, eqb-false}
 use Rattle.std.proofs.lemmas.Result.{err_from_is_err_and}
 use Rattle.runs.specs.Run.{moved}
 use Rattle.runs.proofs.Settling.{delivered_none, delivered_more, quiet_none, still_waits, settles_refused}
-use Rattle.runs.proofs.runner.Runner.deliver_oldest.Goals as goal
+use Rattle.runs.proofs.runner.Runner.settle.Goals as goal
 
 pub loop-init : goal.loop-init
 loop-init g c = ([], (delivered_none (g.P.Program.means c.args.self.now.program) c.args.self.now, refl))
