@@ -4,6 +4,7 @@
 use anyhow::Context;
 use programs::values::State;
 use records::Interval;
+use rows::row::Row;
 use std::env;
 use tables::line::greatest_line;
 use tables::table::Table;
@@ -12,17 +13,11 @@ use tables::table::Table;
 // The last one took what the first sent: in a ring in its interval i + 1, of which the last was never, else in its interval 0.
 fn full(ring: bool) -> Table {
     let mut table = Table::new(8, State::ZERO);
-    for p in 0..8u8 {
-        fill(&mut table, p, ring);
-    }
+    table.change_rows(|process, row| fill(row, process, ring));
     table
 }
 
-fn fill(table: &mut Table, process: u8, ring: bool) {
-    if process >= 8 {
-        return;
-    }
-    let row = &mut table.rows[process as usize];
+fn fill(row: &mut Row, process: u8, ring: bool) {
     for index in 1..97u8 {
         let sent_at = if process < 7 {
             index
@@ -34,7 +29,7 @@ fn fill(table: &mut Table, process: u8, ring: bool) {
         let _ = row.push(Interval {
             process,
             index,
-            source: (process + 1) % 8,
+            source: (process % 8 + 1) % 8,
             sent_at,
             ..Interval::EMPTY
         });

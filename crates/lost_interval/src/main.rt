@@ -13,47 +13,63 @@ use tables::table::Table;
 
 const NAMES: [&str; 3] = ["intake", "stock", "dispatch"];
 
-// The process takes the message and records the interval that it begins.
-fn begin(table: &mut Table, process: u8, source: u8, message: Waiting) -> Result<(), RowFull> {
-    if process >= 8 {
-        return Ok(());
+// The three processes, and what each has recorded.
+#[derive(Clone, Copy)]
+struct Processes {
+    table: Table,
+}
+
+impl Processes {
+    // The process takes the message and records the interval that it begins.
+    fn begin(&mut self, process: u8, source: u8, message: Waiting) -> Result<(), RowFull> {
+        if process >= 8 {
+            return Ok(());
+        }
+        let vector = if source == OUTSIDE {
+            self.table.input_vector(process)
+        } else {
+            self.table.delivery_vector(source, process, message)
+        };
+        let row = &mut self.table.rows[process as usize];
+        let (state, sends, output) = Orders.step(process, row.state(), source, message.value);
+        let index = row.count() + 1;
+        row.push(Interval {
+            process,
+            index,
+            source,
+            sent_at: message.sent_at,
+            value: message.value,
+            sends: sends.within(3),
+            output,
+            vector,
+        })?;
+        row.enter(state);
+        Ok(())
     }
-    let vector = if source == OUTSIDE {
-        table.input_vector(process)
-    } else {
-        table.delivery_vector(source, process, message)
-    };
-    let row = &mut table.rows[process as usize];
-    let (state, sends, output) = Orders.step(process, row.state(), source, message.value);
-    let index = row.count() + 1;
-    row.push(Interval {
-        process,
-        index,
-        source,
-        sent_at: message.sent_at,
-        value: message.value,
-        sends: sends.within(3),
-        output,
-        vector,
-    })?;
-    row.enter(state);
-    Ok(())
-}
 
-fn input(table: &mut Table, process: u8, value: u64) -> Result<(), RowFull> {
-    begin(table, process, OUTSIDE, Waiting { value, sent_at: 0 })
-}
-
-fn deliver(table: &mut Table, source: u8, target: u8) -> Result<(), RowFull> {
-    match table.next_waiting(source, target) {
-        Some(message) => begin(table, target, source, message),
-        None => Ok(()),
+    fn input(&mut self, process: u8, value: u64) -> Result<(), RowFull> {
+        self.begin(process, OUTSIDE, Waiting { value, sent_at: 0 })
     }
-}
 
-// How many intervals each process has.
-fn counts(table: &Table) -> [u8; 8] {
-    array::from_fn(|p| table.intervals(p as u8).len() as u8)
+    fn deliver(&mut self, source: u8, target: u8) -> Result<(), RowFull> {
+        match self.table.next_waiting(source, target) {
+            Some(message) => self.begin(target, source, message),
+            None => Ok(()),
+        }
+    }
+
+    fn crash(&mut self, process: u8) {
+        self.table.change_rows(|p, row| {
+            if p == process {
+                row.crash();
+            }
+        });
+    }
+
+    // How many intervals each process has.
+    fn counts(&self) -> [u8; 8] {
+        array::from_fn(|p| self.table.intervals(p as u8).len() as u8)
+    }
 }
 
 fn tell(rt: &HostRuntime, what: &str, counts: &[u8; 8]) -> anyhow::Result<()> {
@@ -64,45 +80,41 @@ fn tell(rt: &HostRuntime, what: &str, counts: &[u8; 8]) -> anyhow::Result<()> {
     Ok(())
 }
 
-fn crash(table: &mut Table, process: u8) {
-    if process < 8 {
-        table.rows[process as usize].crash();
-    }
-}
-
 fn show(rt: &HostRuntime) -> anyhow::Result<()> {
     let order = Order {
         number: 1,
         quantity: 3,
     };
-    let mut table = Table::new(3, Orders.start(INTAKE));
-    input(&mut table, STOCK, 10)?;
-    input(&mut table, INTAKE, u64::from(order))?;
-    deliver(&mut table, INTAKE, STOCK)?;
-    deliver(&mut table, STOCK, DISPATCH)?;
+    let mut shop = Processes {
+        table: Table::new(3, Orders.start(INTAKE)),
+    };
+    shop.input(STOCK, 10)?;
+    shop.input(INTAKE, u64::from(order))?;
+    shop.deliver(INTAKE, STOCK)?;
+    shop.deliver(STOCK, DISPATCH)?;
     tell(
         rt,
         "Ten pieces came in and order 1 took three. Intervals recorded:",
-        &counts(&table),
+        &shop.counts(),
     )?;
 
-    crash(&mut table, STOCK);
-    let left = counts(&table);
+    shop.crash(STOCK);
+    let left = shop.counts();
     tell(
         rt,
         "Stock crashes with nothing saved. Intervals left:",
         &left,
     )?;
 
-    let line = greatest_line(&table, &left);
+    let line = greatest_line(&shop.table, &left);
     tell(
         rt,
         "Dispatch took a message that stock, as it stands, never sent. The recovery line:",
         &line,
     )?;
 
-    table.cut(&line);
-    tell(rt, "Cut back to the line:", &counts(&table))
+    shop.table.cut(&line);
+    tell(rt, "Cut back to the line:", &shop.counts())
 }
 
 fn main(rt: HostRuntime) -> anyhow::Result<()> {

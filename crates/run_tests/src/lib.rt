@@ -2,6 +2,8 @@
 #![tactic(auto)]
 
 #[cfg(test)]
+mod building;
+#[cfg(test)]
 mod programs_alone;
 #[cfg(test)]
 mod runs_alone;

@@ -1,13 +1,10 @@
 // Single steps of the two programs, at the edges of their numbers.
-use programs::orders::{Order, Orders};
+use crate::building::order;
+use programs::orders::Orders;
 use programs::program::Program;
 use programs::relay::Relay;
 use programs::values::{OUTSIDE, Send, Sends, State};
 use std::test::Fail;
-
-fn order(number: u32, quantity: u32) -> u64 {
-    u64::from(Order { number, quantity })
-}
 
 #[test]
 fn stock_stops_at_the_last_number(rt: HostRuntime) {

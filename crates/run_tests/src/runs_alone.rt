@@ -1,13 +1,10 @@
 // Whole runs: states, channels and outputs, few processes, and what is refused.
-use programs::orders::{Order, Orders};
+use crate::building::order;
+use programs::orders::Orders;
 use programs::relay::Relay;
 use programs::values::State;
 use runs::runner::{Message, Output, RunError, Runner};
 use std::test::Fail;
-
-fn order(number: u32, quantity: u32) -> u64 {
-    u64::from(Order { number, quantity })
-}
 
 // Stock comes in, and an order goes from intake to its picking note and its confirmation.
 #[test]
