@@ -1,6 +1,8 @@
 -- How the records of a journal follow what is written to it and cut from it.
-use Rattle.std.proofs.Common.{◌≡◌, ℕ, ◌+◌, ◌-◌, ◌*◌, ◌/◌, ◌^◌, min, ◌<◌, ◌≤◌, ◌≢◌, List, [], ◌∷◌, ◌++◌, length, get_or, take, drop, set, replicate, Some, None, Option, is_some, true, sym, refl, ap, ◌∙◌, ⊎_elim, append_assoc, arith}
-use Rattle.std.specs.List.{flat_map, All}
+use Rattle.std.proofs.Common.{subst, ◌≡◌, ℕ, ◌+◌, ◌-◌, ◌*◌, ◌/◌, ◌^◌, min, ◌<◌, ◌≤◌, ◌≢◌, List, [], ◌∷◌, ◌++◌, length, get_or, take, drop, set, replicate, Some, None, Option, is_some, true, sym, refl, ap, ◌∙◌, ⊎_elim, append_assoc, arith}
+use Rattle.std.specs.List.{flat_map, All, slice_get}
+use Rattle.std.proofs.lemmas.Option.{slice_get-get_or}
+use Rattle.records.specs.declared.Content.TheVariants.{Line}
 use Rattle.std.proofs.lemmas.List.{length-replicate, take-take, take_all, length-append, length_push, length-take-le, take_at, drop_at, take-append-drop, take-append-le, drop_more, drop-drop, drop-replicate, get_or-set_same, get_or-set_other, flat_map_more}
 use Rattle.std.proofs.lemmas.List.Elements.{All-head, All-tail, All-push, All-take}
 use Rattle.std.specs.Prelude.{MatchOption}
@@ -170,3 +172,49 @@ module _ {bs ends : List ℕ} {n : ℕ} {rs : List Record} (h : Exact bs ends n 
         places = λ i l.
             h.places i (omega arith) ∙ ap (λ xs. length (flat_map framed xs)) (sym (take-take i k rs (omega arith)));
       }
+
+-- any record, where a default is asked that is not read
+abbrev blank : Record
+blank = record { content = Line [] }
+
+-- the frame behind i others is read as record i
+pub found_there : (bs ends : List ℕ) (n : ℕ) (rs : List Record) (i : ℕ) → Exact bs ends n rs → i < length rs → decoded (drop (get_or ends i 0) bs) ≡ slice_get rs i
+found_there bs ends n rs i h l = found h i blank (omega (arith, h.number)) ∙ sym (slice_get-get_or rs i blank l)
+
+-- so there is one
+pub some_there : (o : Option Record) (bs ends : List ℕ) (n : ℕ) (rs : List Record) (i : ℕ) → Exact bs ends n rs → i < length rs → o ≡ decoded (drop (get_or ends i 0) bs) → is_some o ≡ true
+some_there o bs ends n rs i h l e = ap is_some (e ∙ found h i blank (omega (arith, h.number)))
+
+-- the first k frames end within the bytes
+pub place_inside : (bs ends : List ℕ) (n : ℕ) (rs : List Record) (k : ℕ) → Exact bs ends n rs → k ≤ length rs → get_or ends k 0 ≤ length bs
+place_inside bs ends n rs k h l = inside h k (omega (arith, h.number))
+
+-- the first k frames are left
+pub cut_records : (bs ends out : List ℕ) (n : ℕ) (rs : List Record) (k : ℕ) → Exact bs ends n rs → k ≤ length rs → out ≡ zeroed (get_or ends k 0) bs → reading k out ≡ take k rs
+cut_records bs ends out n rs k h l e = rw e (read_off (exact_cut h k (omega (arith, h.number))))
+
+-- and nothing but them
+pub cut_exact : (bs ends out : List ℕ) (n : ℕ) (rs : List Record) (k : ℕ) → Exact bs ends n rs → k ≤ length rs → out ≡ zeroed (get_or ends k 0) bs → Exact out ends k (reading k out)
+cut_exact bs ends out n rs k h l e =
+    rw (cut_records bs ends out n rs k h l e) (rw e (exact_cut h k (omega (arith, h.number))))
+
+-- a frame more, as it is written where there is room for it
+module _ (bs ends out : List ℕ) (n : ℕ) (rs : List Record) (x : Record) (at : ℕ) (o : Option ℕ) (h : Exact bs ends n rs) (room : length rs < min (length bs / 53) 4096) (e : at ≡ get_or ends n 0) (done : MatchOption o ((length bs < at + size x) × (out ≡ bs)) (λ end. Typed x × Wrote bs at (framed x) out end)) where
+  pub push_written : is_some o ≡ true
+  push_written = written _ _ _ _ _ done (omega (arith, fits h room x))
+
+  module _ (end : ℕ) (w : o ≡ Some end) where
+    typed_and_wrote : Typed x × Wrote bs (get_or ends n 0) (framed x) out end
+    typed_and_wrote =
+        let t = rw w at done in
+        (t.0, subst (λ k. Wrote bs k (framed x) out end) e t.1)
+
+    pub push_low : end < 2 ^ 32
+    push_low = omega (arith, low h room x, stop h out end x typed_and_wrote.0 typed_and_wrote.1)
+
+    module _ (free : n + 1 < length ends) (same : length out ≡ length bs) where
+      pub push_records : reading (n + 1) out ≡ rs ++ x ∷ []
+      push_records = read_off (exact_push h out end x typed_and_wrote.0 typed_and_wrote.1 free same)
+
+      pub push_exact : Exact out (set ends (n + 1) end) (n + 1) (reading (n + 1) out)
+      push_exact = rw push_records (exact_push h out end x typed_and_wrote.0 typed_and_wrote.1 free same)

@@ -25,7 +25,8 @@ pub struct Journal<'a> {
 
 impl Journal<'_> {
     ghost use Rattle.byte_store.specs.Bytes.{listed, extent};
-    ghost use Rattle.byte_store.specs.Journals.{FramesAndZeros};
+    ghost use Rattle.std.specs.Prelude.{◌+◌, drop};
+    ghost use Rattle.byte_store.specs.Journals.{FramesAndZeros, standing as surviving};
 
     // The bytes as they are: the frames of the records, and zeros behind them.
     pub fn bytes(&self) -> &[u8]
@@ -33,6 +34,17 @@ impl Journal<'_> {
         ensures frames { FramesAndZeros result.now (listed self.now) }
     {
         &self.bytes
+    }
+
+    // How many frames behind the first `safe` have their closing byte within `j` bytes of them.
+    fn within(&self, safe: usize, j: u64) -> usize
+        requires { safe ≤ length (listed self.now) }
+        ensures bound { safe + result ≤ length (listed self.now) }
+        ensures value { result ≡ surviving j (drop safe (listed self.now)) }
+    {
+        let from = self.ends[safe];
+        let others = &self.ends[safe + 1..=self.count];
+        others.partition_point(|end| end.saturating_sub(from) as u64 <= j)
     }
 
     // The place behind the last frame.
@@ -68,15 +80,13 @@ impl Medium for Journal<'_> {
         (self.bytes.len() / LARGEST).min(MAX_CAPACITY)
     }
 
+    #[tactic(auto, using(crate::proofs::Filed::found_there, crate::proofs::Filed::some_there))]
     fn at(&self, i: usize) -> Record {
         read_frame(self.bytes, self.ends[i] as usize).unwrap()
     }
 
-    // Those whose closing byte is within the first `j` bytes behind the safe frames.
     fn standing(&self, safe: usize, j: u64) -> usize {
-        let from = self.ends[safe];
-        let others = &self.ends[safe + 1..=self.count];
-        safe + others.partition_point(|end| end.saturating_sub(from) as u64 <= j)
+        safe + self.within(safe, j)
     }
 
     fn push(&mut self, record: Record) {
@@ -87,6 +97,7 @@ impl Medium for Journal<'_> {
     }
 
     // Leaves zeros behind the first `n` frames.
+    #[tactic(auto, using(crate::proofs::Filed::place_inside, crate::proofs::Filed::cut_records, crate::proofs::Filed::cut_exact))]
     fn cut(&mut self, n: usize) {
         let end = self.ends[n] as usize;
         zero(self.bytes, end);

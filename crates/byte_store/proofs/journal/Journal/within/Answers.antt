@@ -1,7 +1,7 @@
-use Rattle.std.proofs.Common.{ℕ, ◌+◌, ◌-◌, Bool, leb, get_or, take, drop, sym, ap, arith, rules}
+use Rattle.std.proofs.Common.{ℕ, ◌+◌, ◌-◌, Bool, leb, get_or, take, drop, sym, arith, rules}
 use Rattle.std.proofs.lemmas.List.Sorted.{IsPartitionedBy-leb, IsPartitionPoint-from_clause}
 use Rattle.byte_store.proofs.Walks.{rises, stood}
-use Rattle.byte_store.proofs.journal.JournalMedium.standing.Goals as goal
+use Rattle.byte_store.proofs.journal.Journal.within.Goals as goal
 
 pub returns-clause-value : goal.returns-clause-value
 returns-clause-value c =
@@ -14,4 +14,4 @@ returns-clause-value c =
     IsPartitionPoint-from_clause test others c.partition_point.result c.partition_point.ensures.partitioned
     (IsPartitionedBy-leb (λ y. y - from) others c.args.j (rises j.exact safe (omega (arith, j.exact.number)) (omega arith)))
     (λ a r f h. search rules) in
-    ap (λ k. safe + k) (sym (stood j.exact safe (omega (arith, j.exact.number)) (omega arith) c.args.j _ c.partition_point.ensures.bound point))
+    sym (stood j.exact safe (omega (arith, j.exact.number)) (omega arith) c.args.j _ c.partition_point.ensures.bound point)
