@@ -22,16 +22,14 @@ fn dies<S: Store>(rt: &impl Abort, store: &mut S) {
 }
 
 fn zero(rt: &impl Abort, bytes: &[u8]) {
-    for b in bytes {
-        assert_eq!(rt; *b, 0);
-    }
+    assert!(rt; bytes.iter().all(|b| *b == 0));
 }
 
 // Over `size` bytes there is room for `capacity` records.
 fn holds(rt: &impl Abort, size: usize, capacity: u64) -> Result<(), Fail> {
     let mut bytes = [0xEE; 217_141];
     assert!(rt; size <= 217_141);
-    let mut store = ByteStore::new(&mut bytes[0..size]);
+    let mut store = ByteStore::new(&mut bytes[..size]);
     zero(rt, store.medium().bytes());
     assert_eq!(rt; store.capacity(), capacity);
     for i in 0..capacity {
@@ -117,8 +115,8 @@ fn frames_in_bytes(rt: HostRuntime) -> Result<(), Fail> {
     store.append(samples::checkpoint())?;
     assert_eq!(rt; store.append(samples::line(1)), Err(Fault::Full));
     assert!(rt; bytes.len() == 106);
-    assert_eq!(rt; &bytes[0..13], &samples::LINE[0..13]);
-    assert_eq!(rt; &bytes[13..52], &samples::CHECKPOINT[0..39]);
+    assert_eq!(rt; &bytes[..13], &samples::LINE[..]);
+    assert_eq!(rt; &bytes[13..52], &samples::CHECKPOINT[..]);
     zero(&rt, &bytes[52..]);
     Ok(())
 }

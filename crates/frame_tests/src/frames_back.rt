@@ -18,21 +18,13 @@ fn placed(rt: &impl Abort, record: &Record) -> Result<[u8; 64], Fail> {
     Ok(bytes)
 }
 
-fn copy_front(bytes: &mut [u8], front: &[u8]) {
-    for (i, b) in front.iter().enumerate() {
-        if i < bytes.len() {
-            bytes[i] = *b;
-        }
-    }
-}
-
 // Only the first `k` bytes of a frame stand, with zeros or with nothing behind them.
 fn torn_at(rt: &impl Abort, frame: &[u8; 53], k: usize) {
     let mut torn = [0; 60];
     assert!(rt; k < 53);
-    copy_front(&mut torn, &frame[0..k]);
+    torn[..k].copy_from_slice(&frame[..k]);
     assert_eq!(rt; read_frame(&torn, 0), None);
-    assert_eq!(rt; read_frame(&frame[0..k], 0), None);
+    assert_eq!(rt; read_frame(&frame[..k], 0), None);
 }
 
 // With another byte at `at`, which no frame can have there, nothing is read.

@@ -1,8 +1,10 @@
 -- What is written is read back, and what is torn is not.
 use Rattle.std.proofs.Common.{◌≡◌, ℕ, ◌+◌, ◌-◌, ◌%◌, ◌<◌, ◌≤◌, Bool, true, false, cond, eqb, List, [], ◌∷◌, ◌++◌, length, get_or, take, drop, replicate, Some, None, Option, sym, refl, ap, ◌∙◌, subst, ⊎_elim, append_assoc, arith}
-use Rattle.std.specs.List.{flat_map, AllByRecursion}
+use Rattle.std.specs.Bool.{then_some}
+use Rattle.std.specs.List.{flat_map, All}
+use Rattle.std.proofs.lemmas.List.Elements.{All-head, All-tail}
 use Rattle.std.proofs.lemmas.Slice.Eq.{bytes_eq-Decides}
-use Rattle.std.proofs.lemmas.List.{take_rest, take_at, drop_at, take-append-drop, length-append, length-take-le, get_or_at, get_or_append_left, get_or-append_right, get_or-take, get_or-replicate, get_or_past, length-replicate}
+use Rattle.std.proofs.lemmas.List.{take_at, drop_at, take-append-drop, length-append, length-take-le, get_or_at, get_or_append_left, get_or-append_right, get_or-take, get_or-replicate, get_or_past, length-replicate}
 use Rattle.std.proofs.lemmas.Bool.{cond-true, cond_both, cases_lt}
 use Rattle.programs.specs.declared.values.Sends.{Sends}
 use Rattle.programs.specs.declared.values.Sends.TheVariants.{Nothing, One, Two}
@@ -133,34 +135,33 @@ torn x k zeros h l = go (decoded (torn_bytes x k zeros h l)) refl
     go None e = refl
     go (Some y) e = absurd (never x k zeros h l y e)
 
-lists_back : (xs : List Record) (rest : List ℕ) → AllByRecursion Typed xs → reading (length xs) (flat_map framed xs ++ rest) ≡ xs
+lists_back : (xs : List Record) (rest : List ℕ) → All Typed xs → reading (length xs) (flat_map framed xs ++ rest) ≡ xs
 lists_back [] rest h = refl
 lists_back (x ∷ xs) rest h =
     let tail = flat_map framed xs ++ rest in
     let front : flat_map framed (x ∷ xs) ++ rest ≡ framed x ++ tail = append_assoc (framed x) (flat_map framed xs) rest in
-    let head : decoded (flat_map framed (x ∷ xs) ++ rest) ≡ Some x = ap decoded front ∙ read_back x tail h.0 in
+    let head : decoded (flat_map framed (x ∷ xs) ++ rest) ≡ Some x = ap decoded front ∙ read_back x tail (All-head Typed x xs h) in
     let left : drop (length (framed x)) (flat_map framed (x ∷ xs) ++ rest) ≡ tail =
     ap (λ bs. drop (length (framed x)) bs) front ∙ drop_at (framed x) tail (length (framed x)) refl in
     ap (followed (reading (length xs)) (flat_map framed (x ∷ xs) ++ rest)) head
-    ∙ ap (λ ys. x ∷ ys) (ap (λ bs. reading (length xs) bs) left ∙ lists_back xs rest h.1)
+    ∙ ap (λ ys. x ∷ ys) (ap (λ bs. reading (length xs) bs) left ∙ lists_back xs rest (All-tail Typed x xs h))
 
 -- of no bytes nothing is read
 pub decoded_nil : decoded [] ≡ None
 unfolding decoded
 decoded_nil = refl
 
+chosen : (x : Record) (r : Bool) → cond r (Some x) None ≡ then_some r x
+chosen x true = refl
+chosen x false = refl
+
 -- the test of the reader: the candidate's frame against the bytes
-pub tested : (bytes was out : List ℕ) (at end : ℕ) (x : Record) (r : Bool) → x ≡ candidate (take (length bytes - at) (drop at bytes)) → Wrote was 0 (framed x) out end → r ≡ begins (take (end - 0) out) (take (length bytes - at) (drop at bytes)) → decoded (drop at bytes) ≡ cond r (Some x) None
+pub tested : (bs was out : List ℕ) (end : ℕ) (x : Record) (r : Bool) → x ≡ candidate bs → Wrote was 0 (framed x) out end → r ≡ begins (take end out) bs → decoded bs ≡ then_some r x
 unfolding decoded
-tested bytes was out at end x r same wrote m =
-    let bs = drop at bytes in
-    let all = take_rest bytes at in
-    let zero_off : end - 0 ≡ end = omega arith in
-    let part : take (end - 0) out ≡ framed x = ap (λ n. take n out) zero_off ∙ wrote.front in
-    let answer : r ≡ begins (framed x) bs = m ∙ ap (λ s. begins (take (end - 0) out) s) all ∙ ap (λ p. begins p bs) part in
-    let x_is : x ≡ candidate bs = same ∙ ap candidate all in
-    let P : Record → Type 0 = λ y. cond (begins (framed y) bs) (Some y) None ≡ cond r (Some x) None in
-    subst P x_is (ap (λ b. cond b (Some x) None) (sym answer))
+tested bs was out end x r same wrote m =
+    let answer : r ≡ begins (framed x) bs = m ∙ ap (λ p. begins p bs) wrote.front in
+    let P : Record → Type 0 = λ y. cond (begins (framed y) bs) (Some y) None ≡ then_some r x in
+    subst P same (ap (λ b. cond b (Some x) None) (sym answer) ∙ chosen x r)
 
 -- what is decoded is strict, where it is a record of the code's types
 strict : (bs : List ℕ) (r : Option Record) → decoded bs ≡ r → ((x : Record) → r ≡ Some x → Typed x) → Strict bs r
@@ -174,5 +175,6 @@ strict bs r e typed = record {
 pub strict_none : (bs : List ℕ) → decoded bs ≡ None → Strict bs None
 strict_none bs e = strict bs None e (λ x s. let z : ◌≡◌ {A = ℕ} 0 1 = cc in absurd (omega arith))
 
-pub strict_some : (bs : List ℕ) (x : Record) → decoded bs ≡ Some x → Typed x → Strict bs (Some x)
-strict_some bs x e h = strict bs (Some x) e (λ y s. let same : x ≡ y = cc in let P : Record → Type 0 = Typed in subst P same h)
+pub strict_either : (bs : List ℕ) (x : Record) (r : Bool) → decoded bs ≡ then_some r x → Typed x → Strict bs (then_some r x)
+strict_either bs x true e h = strict bs (Some x) e (λ y s. let same : x ≡ y = cc in let P : Record → Type 0 = Typed in subst P same h)
+strict_either bs x false e h = strict_none bs e

@@ -1,2 +1,3 @@
 pub mod Frames
 pub mod Reads
+pub mod Inside

@@ -1,6 +1,6 @@
 -- Reading a frame back: a record is read exactly where its own frame stands, byte for byte.
 use Rattle.std.specs.Prelude.{◌≡◌, ℕ, zero, suc, ◌+◌, ◌*◌, ◌<◌, Bool, cond, List, [], ◌∷◌, ◌++◌, length, take, drop, replicate, Some, None, Option, ◌==◌, slice_index}
-use Rattle.std.specs.List.{flat_map, AllByRecursion}
+use Rattle.std.specs.List.{flat_map, All}
 use Rattle.std.specs.Str.{bytes_eq}
 use Rattle.programs.specs.declared.values.Send.{Send}
 use Rattle.programs.specs.declared.values.Sends.{Sends}
@@ -88,7 +88,7 @@ pub record Strict (bs : List ℕ) (r : Option Record) : Type 0 where
   -- a frame cut short anywhere, with zeros behind it or with the bytes ending there, is never read
   pub torn : (x : Record) (k zeros : ℕ) → Typed x → k < length (framed x) → bs ≡ take k (framed x) ++ replicate zeros 0 → r ≡ None
   -- the frames of a list, with anything behind them, read back to the list
-  pub lists : (xs : List Record) (rest : List ℕ) → AllByRecursion Typed xs → bs ≡ flat_map framed xs ++ rest → reading (length xs) bs ≡ xs
+  pub lists : (xs : List Record) (rest : List ℕ) → All Typed xs → bs ≡ flat_map framed xs ++ rest → reading (length xs) bs ≡ xs
 
 -- the recovery line of 1 and then zeros
 abbrev pub first_line : Record

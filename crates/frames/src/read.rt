@@ -2,9 +2,10 @@
 ghost use Rattle.std.specs.Prelude.{◌≡◌, ◌+◌, ◌≤◌, drop, slice_index};
 ghost use Rattle.frames.specs.Reads.{candidate as best, decoded, Strict, word_at, entries_at, send_at, sends_at, output_at, interval_at, checkpoint_at};
 
-use crate::write::{LARGEST, write_frame};
+use crate::write::{CHECKPOINT_LONG, INTERVAL_LONG, LARGEST, write_frame};
 use programs::values::{Send, Sends, State};
 use records::{Checkpoint, Content, Interval, Record};
+use std::array;
 
 // The record whose frame stands at `at`, if one does. It is read only where its own frame stands
 // byte for byte, so a wrong length, kind or closing byte, a send count above 2, a flag above 1 or an
@@ -13,26 +14,20 @@ pub fn read_frame(bytes: &[u8], at: usize) -> Option<Record>
     ensures value { result ≡ decoded (drop at bytes.now) }
     ensures strict { Strict (drop at bytes.now) result }
 {
-    if at > bytes.len() {
-        return None;
-    }
-    let rest = &bytes[at..];
+    let rest = bytes.get(at..)?;
     let record = candidate(rest);
     let mut again = [0; LARGEST];
     let size = write_frame(&mut again, 0, &record)?;
-    if rest.starts_with(&again[0..size]) {
-        Some(record)
-    } else {
-        None
-    }
+    rest.starts_with(&again[..size]).then_some(record)
 }
 
+// The places are those of the frame, written out: a struct of bytes and place would have to move between them and shows them no plainer.
 fn candidate(bytes: &[u8]) -> Record
     ensures { result ≡ best bytes.now }
 {
     let content = match byte(bytes, 0) {
-        51 => interval(bytes),
-        37 => checkpoint(bytes),
+        INTERVAL_LONG => interval(bytes),
+        CHECKPOINT_LONG => checkpoint(bytes),
         _ => Content::Line(entries(bytes, 4)),
     };
     Record { content }
@@ -108,21 +103,12 @@ fn entries(bytes: &[u8], at: usize) -> [u8; 8]
     requires { at ≤ 44 }
     ensures { result ≡ entries_at bytes.now at }
 {
-    [
-        byte(bytes, at),
-        byte(bytes, at + 1),
-        byte(bytes, at + 2),
-        byte(bytes, at + 3),
-        byte(bytes, at + 4),
-        byte(bytes, at + 5),
-        byte(bytes, at + 6),
-        byte(bytes, at + 7),
-    ]
+    array::from_fn(|k| byte(bytes, at + k))
 }
 
 // A missing byte counts as 0.
 fn byte(bytes: &[u8], at: usize) -> u8
     ensures { result ≡ slice_index bytes.now at }
 {
-    if at < bytes.len() { bytes[at] } else { 0 }
+    bytes.get(at).copied().unwrap_or(0)
 }
