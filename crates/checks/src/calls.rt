@@ -137,7 +137,7 @@ impl HostState {
         self.shown_output(p, n)
     }
 
-    // The process that is to be written, with so many records more than its intervals.
+    // The process that is to be written, with so many records more than its intervals. The store stays an argument: the host owns it beside its state.
     fn check_writing<S: Store>(&self, store: &S, process: u64, more: u64) -> Result<u8, Refusal>
         requires { more ≤ 1 }
         ensures { Checked (absent (processes self.now.table) process 1 ∷ dark (world_of self.now.table self.now.dark (S.Store.means store.now)) ∷ down (world_of self.now.table self.now.dark (S.Store.means store.now)) process ∷ no_room (world_of self.now.table self.now.dark (S.Store.means store.now)) (length (unsaved (world_of self.now.table self.now.dark (S.Store.means store.now)) process) + more) ∷ []) (λ p. p ≡ process) result }

@@ -35,7 +35,7 @@ impl HostState {
         array::from_fn(|p| self.left(p as u8))
     }
 
-    // The committed line: the greatest within the saved counts.
+    // The committed line: the greatest within the saved counts. It and the next differ in the counts alone, which name them.
     pub fn committed_line(&self) -> [u8; 8]
         ensures { (p : ℕ) → line_of result p ≡ greatest_line (processes self.now.table) (family self.now.table) (λ q. (row_of self.now.table q).saved) p }
     {

@@ -56,6 +56,7 @@ impl Refusal {
         }
     }
 
+    // A match: the cases carry values, and so cannot be their own numbers.
     pub fn number(self) -> u8
         ensures { result ≡ (refusal self).number }
     {

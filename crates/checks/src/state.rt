@@ -5,5 +5,6 @@ use tables::table::Table;
 #[derive(Clone, Copy)]
 pub struct HostState {
     pub table: Table,
+    // beside the table, whose states stay while the host is dark, as the rules want
     pub dark: bool,
 }

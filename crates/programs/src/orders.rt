@@ -6,6 +6,7 @@ ghost use Rattle.std.proofs.Common.{rules};
 use crate::program::{Program, Step};
 use crate::values::{OUTSIDE, Send, Sends, State};
 
+// No enum of processes: the rules and the records number them.
 pub const INTAKE: u8 = 0;
 
 pub const STOCK: u8 = 1;
@@ -43,6 +44,7 @@ impl From<Order> for u64 {
     }
 }
 
+// The state and the value of a step stay two arguments, as the rules name them.
 fn take_order(state: State, value: u64) -> Step
     ensures { result ≡ intake_order state value }
 {

@@ -29,7 +29,7 @@ pub enum Sends {
     Two(Send, Send),
 }
 
-// The source of an input; sources below it are processes.
+// The source of an input; sources below it are processes. No enum: the rules and the records number the sources.
 pub const OUTSIDE: u8 = 8;
 
 impl State {

@@ -19,7 +19,7 @@ pub struct Found {
     pub record: u64,
 }
 
-// By index, the last checkpoint that stands.
+// By index, the last checkpoint that stands: an array, since a host has no heap for a map.
 type Slots = [Option<Found>; 256];
 
 // What is above the limit stands no more.

@@ -16,7 +16,7 @@ pub struct Interval {
     pub value: u64,
     pub sends: Sends,
     pub output: Option<u64>,
-    // the dependency vector: for each process its last interval that this one depends on
+    // the dependency vector: for each process its last interval that this one depends on; the rules fix eight entries
     pub vector: [u8; 8],
 }
 

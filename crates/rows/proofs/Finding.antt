@@ -1,15 +1,15 @@
 -- The searches by number: what comes at a place of a list that is made of others.
-use Rattle.std.proofs.Common.{◌≡◌, ℕ, zero, suc, ◌+◌, ◌-◌, ◌<◌, ◌≤◌, eqb, List, [], ◌∷◌, ◌++◌, map, length, get_or, take, drop, fold, Some, None, Option, filter, sym, refl, ap, ◌∙◌, arith}
-use Rattle.std.specs.Option.{option_map, option_map_or, option_to_list}
+use Rattle.std.proofs.Common.{◌≡◌, ℕ, zero, suc, ◌+◌, ◌-◌, ◌<◌, ◌≤◌, eqb, List, [], ◌∷◌, ◌++◌, length, get_or, drop, Some, None, Option, filter, sym, refl, ap, ◌∙◌, arith}
+use Rattle.std.specs.Option.{option_map, option_to_list}
 use Rattle.std.specs.List.{cons_option, flat_map, filter_map, slice_get}
-use Rattle.std.proofs.lemmas.List.{take_more, take_all, at_drop_more, at_drop_all, length-map}
-use Rattle.std.proofs.lemmas.List.Sums.{fold_push}
+use Rattle.std.proofs.lemmas.Option.{slice_get-map}
+use Rattle.std.proofs.lemmas.List.{at_drop_more, at_drop_all, length-map}
 use Rattle.programs.specs.Values.{listed}
 use Rattle.programs.specs.declared.values.Send.{Send}
 use Rattle.programs.specs.declared.values.Sends.{Sends}
 use Rattle.programs.specs.declared.values.Sends.TheVariants.{Nothing}
 use Rattle.records.specs.declared.Interval.{Interval}
-use Rattle.lines.specs.Intervals.{sent_in, outputs, no_vector, vector_after}
+use Rattle.lines.specs.Intervals.{sent_in, outputs}
 use Rattle.rows.specs.Outputs.{nth_output}
 
 -- any interval, where a read wants one
@@ -26,22 +26,12 @@ nth_append_right [] ys n h = ap (slice_get ys) (omega arith)
 nth_append_right (x ∷ xs) ys zero h = absurd (omega arith)
 nth_append_right (x ∷ xs) ys (suc n) h = nth_append_right xs ys n (omega arith) ∙ ap (slice_get ys) (omega arith)
 
-pub nth_map : {X Y : Type 0} (f : X → Y) (xs : List X) (n : ℕ) → slice_get (map f xs) n ≡ option_map f (slice_get xs n)
-nth_map f [] n = refl
-nth_map f (x ∷ xs) zero = refl
-nth_map f (x ∷ xs) (suc n) = nth_map f xs n
-
 -- the first of what is left
 pub nth_drop : {X : Type 0} (n : ℕ) (xs : List X) → slice_get (drop n xs) 0 ≡ slice_get xs n
 nth_drop zero [] = refl
 nth_drop zero (x ∷ xs) = refl
 nth_drop (suc n) [] = refl
 nth_drop (suc n) (x ∷ xs) = nth_drop n xs
-
-pub within_some : {X : Type 0} (xs : List X) (n : ℕ) (x : X) → slice_get xs n ≡ Some x → n < length xs
-within_some [] n x e = absurd (let z : ◌≡◌ {A = ℕ} 0 1 = cc in omega arith)
-within_some (y ∷ xs) zero x e = omega arith
-within_some (y ∷ xs) (suc n) x e = let more = within_some xs n x e in omega arith
 
 -- a search through the lists of the elements of xs that has come to the element at i
 module _ {X A : Type 0} (f : X → List A) (xs : List X) (i : ℕ) (left : ℕ) where
@@ -76,17 +66,6 @@ module _ (t : ℕ) (x : Interval) (r : Sends) (same : listed r ≡ filter (λ m.
 
   pub nth_sent_in : (n : ℕ) (m : Send) → slice_get (listed r) n ≡ Some m → slice_get (sent_in t x) n ≡ Some (record { value = m.value; sent_at = x.index })
   nth_sent_in n m e =
-      nth_map (λ (m : Send). record { value = m.value; sent_at = x.index }) (filter (λ m. eqb m.target t) (listed x.sends)) n
+      slice_get-map (λ (m : Send). record { value = m.value; sent_at = x.index }) (filter (λ m. eqb m.target t) (listed x.sends)) n
       ∙ ap (λ ms. option_map (λ (m : Send). record { value = m.value; sent_at = x.index }) (slice_get ms n)) (sym same)
       ∙ ap (option_map (λ (m : Send). record { value = m.value; sent_at = x.index })) e
-
--- the vector of the last interval, where there is one
-pub vector_last : (xs : List Interval) → option_map_or (λ (x : Interval). x.vector) (slice_get xs (length xs - 1)) no_vector ≡ vector_after xs
-vector_last [] = refl
-vector_last (x ∷ xs) = last x xs no_vector
-  where
-    last : (x : Interval) (xs : List Interval) (v : List ℕ) → option_map_or (λ (x : Interval). x.vector) (slice_get (x ∷ xs) (length (x ∷ xs) - 1)) no_vector ≡ fold (λ _ (x : Interval). x.vector) v (x ∷ xs)
-    last x [] v = refl
-    last x (y ∷ ys) v =
-        let e : length (x ∷ y ∷ ys) - 1 ≡ suc (length (y ∷ ys) - 1) = omega arith in
-        ap (λ n. option_map_or (λ (x : Interval). x.vector) (slice_get (x ∷ y ∷ ys) n) no_vector) e ∙ last y ys x.vector

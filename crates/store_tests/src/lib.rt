@@ -42,6 +42,7 @@ mod tests {
         }
     }
 
+    // This and `dies` stand in the tests of frames too: a crate for both would be no plainer.
     fn line(entry: u8) -> Record {
         Record {
             content: Content::Line([entry, 0, 0, 0, 0, 0, 0, 96]),
@@ -87,7 +88,7 @@ mod tests {
         assert!(rt; !store.is_alive());
     }
 
-    // What was written is read, before and after a sync, and nothing else.
+    // What was written is read, before and after a sync, and nothing else. The tests' runtime and the store stay two arguments: they have nothing in common.
     fn keeps_all_kinds<S: Store>(rt: &impl Abort, store: &mut S) -> Result<(), Fail> {
         for record in samples() {
             store.append(record)?;

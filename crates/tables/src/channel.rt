@@ -15,7 +15,7 @@ pub struct Waiting {
     pub sent_at: u8,
 }
 
-// The message to `target` that `skip` others come before.
+// The message to `target` that `skip` others come before. A `flat_map` to the `skip`-th would need a closure in a closure, and is no plainer.
 pub(crate) fn sent_after(xs: &[Interval], target: u8, skip: usize) -> Option<Waiting>
     ensures { option_map as_message result ≡ slice_get (drop skip (channel target xs.now)) 0 }
 {

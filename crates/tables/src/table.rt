@@ -5,7 +5,7 @@ mod changing;
 mod messages;
 mod reading;
 
-// A count above 8 means 8. One row at a time is changed, by the row's methods.
+// A count above 8 means 8; the rules fix an array with a count. One row at a time is changed, by the row's methods.
 #[derive(Clone, Copy)]
 pub struct Table {
     pub rows: [Row; 8],

@@ -20,7 +20,7 @@ impl Table {
         }
     }
 
-    // The row of each process is changed in its place, by its number.
+    // The row of each process is changed in its place, by its number: of rows that an adapter of `iter_mut` changes the proof knows nothing.
     pub fn change_rows<F: Fn(u8, &mut Row)>(&mut self, change: F)
         requires { F.IsAlwaysCallable change }
         ensures { (f : ℕ → Held → Held) → ((p : ℕ) (a b : _) → F.post change p a tt b → held b.now ≡ f p (held a.now)) → Changes f self.old self.new }
