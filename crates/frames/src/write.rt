@@ -61,7 +61,9 @@ fn checkpoint_bytes(x: &Checkpoint) -> [u8; 2]
 }
 
 // Writes the frame of `record` at `at`, and answers the place behind it. Where it does not fit,
-// nothing is written.
+// nothing is written. It is inlined with the pen's two ways through a record, so that a caller that
+// knows the kind of its record writes that kind alone.
+#[inline(always)]
 pub fn write_frame(out: &mut [u8], at: usize, record: &Record) -> Option<usize>
     ensures { MatchOption result ((length out.old < at + size «record».now) × (out.new ≡ out.old)) (λ end. Typed «record».now × Wrote out.old at (framed «record».now) out.new end) }
 {
@@ -166,6 +168,7 @@ impl Pen<'_> {
         self.put_word(x.state.d);
     }
 
+    #[inline(always)]
     fn put_frame(&mut self, record: &Record)
         requires { self.old.at + size «record».now ≤ length self.old.out.now }
         ensures typed { Typed «record».now }
@@ -191,6 +194,7 @@ impl Pen<'_> {
         self.put(&[CLOSING]);
     }
 
+    #[inline(always)]
     fn put_fields(&mut self, content: &Content)
         requires { self.old.at + long content.now ≤ length self.old.out.now + 3 }
         ensures typed { Held content.now }
