@@ -63,6 +63,7 @@ fn checkpoint(bytes: &[u8]) -> Content
     })
 }
 
+// Here and at an output the numbers are the format's.
 fn sends(bytes: &[u8]) -> Sends
     ensures { result ≡ sends_at bytes.now }
 {
