@@ -38,16 +38,12 @@ pub fn write_unsaved<S: Store>(store: &mut S, table: &Table, process: u8) -> Res
 pub fn write_checkpoint<S: Store>(store: &mut S, table: &Table, process: u8) -> Result<(), Fault>
     ensures { (answer result, S.Store.means store.new) ≡ written (map interval_record (drop (row_of table.now process).saved (row_of table.now process).intervals) ++ (checkpoint_record process (length (row_of table.now process).intervals) (row_of table.now process).state ∷ [])) (S.Store.means store.old) }
 {
-    let checkpoint = Checkpoint {
+    let checkpoint = Content::Checkpoint(Checkpoint {
         process,
         index: table.intervals(process).len() as u8,
         state: table.state(process),
-    };
-    write(
-        store,
-        table.unsaved_intervals(process),
-        Some(Content::Checkpoint(checkpoint)),
-    )
+    });
+    write(store, table.unsaved_intervals(process), Some(checkpoint))
 }
 
 // The line of a recovery.
