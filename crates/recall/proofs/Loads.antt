@@ -1,6 +1,5 @@
 -- A table read from a store, record by record.
-use Rattle.std.proofs.Common.{◌≡◌, ℕ, ◌+◌, ◌<◌, ◌≤◌, min, false, eqb, ltb, ◌⊎◌, List, [], ◌∷◌, ◌++◌, map, length, get_or, set, take, Some, None, Ok, Err, Result, sym, refl, ap, ◌∙◌, subst, inl, inr, arith}
-use Rattle.std.specs.List.{slice_get}
+use Rattle.std.proofs.Common.{◌≡◌, ℕ, ◌<◌, ◌≤◌, min, false, eqb, ltb, ◌⊎◌, List, [], ◌∷◌, ◌++◌, map, length, get_or, set, take, Ok, Err, Result, sym, refl, ap, ◌∙◌, inl, inr, arith}
 use Rattle.std.proofs.lemmas.List.{length-take, length_push, take_all, take-append-le, take-take}
 use Rattle.std.proofs.lemmas.List.Sums.{fold_push}
 use Rattle.std.proofs.lemmas.Bool.{cases_lt, cases_eq, cond-true, cond-false, lt-ltb, le-ltb, eq-eqb, ne_eqb}
@@ -18,7 +17,6 @@ use Rattle.tables.specs.declared.table.Table.{Table}
 use Rattle.tables.proofs.Families.{row_at, row_changed}
 use Rattle.histories.specs.Reading.{Image, noted, reading}
 use Rattle.recall.specs.Loaded.{readable, Loaded, emptied, noted_row, recalled, saved_row}
-use Rattle.recall.proofs.Fetching.{taken_more, taken_same}
 
 abbrev pub with_row : Table → ℕ → Row → Table
 with_row t p row = record { rows = set t.rows p row; count = t.count }
@@ -87,12 +85,6 @@ pub record SoFar (rs : List Record) (t u : Table) : Type 0 where
   pub count : u.count ≡ t.count
   pub rows : (p : ℕ) → p < processes t → row_of u p ≡ read_row ((reading rs).rows p) (row_of t p).state
 
-pub so_far_none : (t u : Table) → Changes (λ _ h. emptied h) t u → SoFar [] u u
-so_far_none t u clear = record {
-  count = refl;
-  rows = λ p h. let is = clear.rows p (omega (arith, ap (λ n. min n 8) clear.count)) in is ∙ ap emptied (sym is);
-}
-
 pub so_far_more : (rs : List Record) (r : Record) (t u v : Table) → SoFar rs t u → Changes (noted_row r.content) u v → SoFar (rs ++ (r ∷ [])) t v
 so_far_more rs r t u v so changes = record {
   count = changes.count ∙ so.count;
@@ -102,14 +94,6 @@ so_far_more rs r t u v so changes = record {
       ∙ noted_read (reading rs) r.content p (row_of t p).state
       ∙ sym (ap (λ (i : Image). read_row (i.rows p) (row_of t p).state) (fold_push (λ i r. noted i r.content) (record { rows = λ p. []; checkpoints = λ p. [] }) rs r));
 }
-
--- a turn of the loop over the records
-module _ (rs : List Record) (i : ℕ) (t u : Table) (so : SoFar (take i rs) t u) where
-  pub turn_some : (r : Record) (v : Table) → slice_get rs i ≡ Some r → Changes (noted_row r.content) u v → SoFar (take (i + 1) rs) t v
-  turn_some r v is changes = subst (λ xs. SoFar xs t v) (sym (taken_more rs i r is)) (so_far_more (take i rs) r t u v so changes)
-
-  pub turn_none : slice_get rs i ≡ None → SoFar (take (i + 1) rs) t u
-  turn_none is = subst (λ xs. SoFar xs t u) (sym (taken_same rs i is)) so
 
 -- the states are still those before the table was emptied
 pub so_far_all : (m : store.Meaning) (t u v w : Table) → Changes (λ _ h. emptied h) t u → SoFar (readable m) u v → Changes (λ _ h. all_saved h) v w → Loaded m t w

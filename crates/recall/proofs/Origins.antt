@@ -1,11 +1,9 @@
 -- The checkpoints that stand, with and without the numbers of their records.
-use Rattle.std.proofs.Common.{◌≡◌, ℕ, ◌+◌, ◌<◌, ◌≤◌, Bool, true, false, cond, eqb, leb, ◌⊎◌, List, [], ◌∷◌, ◌++◌, map, length, get_or, take, Some, None, fold, filter, Option, sym, refl, ap, ◌∙◌, subst, inl, inr, arith}
+use Rattle.std.proofs.Common.{◌≡◌, ℕ, ◌+◌, Bool, true, false, cond, eqb, leb, ◌⊎◌, List, [], ◌∷◌, ◌++◌, map, get_or, Some, None, fold, filter, Option, sym, refl, ap, ◌∙◌, inl, inr}
 use Rattle.std.proofs.Math.Dec.{leb-zero}
-use Rattle.std.specs.List.{slice_get}
-use Rattle.std.proofs.lemmas.List.{length-take, map_push}
-use Rattle.std.proofs.lemmas.Option.{slice_get_past as nth_past}
-use Rattle.std.proofs.lemmas.List.Sums.{fold_push}
-use Rattle.std.proofs.lemmas.Bool.{cases_lt, cases_eq, cond-true, cond-false, eq-eqb, ne_eqb}
+use Rattle.std.specs.List.{enumerate_from}
+use Rattle.std.proofs.lemmas.List.{map_push}
+use Rattle.std.proofs.lemmas.Bool.{cases_eq, cond-true, cond-false, eq-eqb, ne_eqb}
 use Rattle.programs.specs.Program.{Meaning}
 use Rattle.programs.specs.declared.values.State.{State}
 use Rattle.records.specs.declared.Checkpoint.{Checkpoint}
@@ -13,9 +11,8 @@ use Rattle.records.specs.declared.Content.{Content}
 use Rattle.records.specs.declared.Content.TheVariants as content
 use Rattle.records.specs.declared.Record.{Record}
 use Rattle.histories.specs.Reading.{Image, noted, reading}
-use Rattle.recall.specs.Standing.{Holds, numbered, marked, marked_next, standing, higher, highest, origin_within, begins}
+use Rattle.recall.specs.Standing.{numbered, marked, marked_next, standing, higher, highest, origin_within, begins}
 use Rattle.recall.specs.declared.checkpoint.Found.{Found}
-use Rattle.recall.proofs.Fetching.{taken_more, taken_same}
 
 -- without the number
 abbrev pub checkpoint_of : ℕ → Found → Checkpoint
@@ -47,34 +44,12 @@ module _ (p : ℕ) where
           ap (map (checkpoint_of p)) (cond-false (eqb p c.process) (cs ++ (numbered n c ∷ [])) cs (ne_eqb p c.process d))
           ∙ e ∙ sym (cond-false (eqb p c.process) (i.checkpoints c.process ++ (c ∷ [])) (i.checkpoints p) (ne_eqb p c.process d))
 
-  stands_from : (s : ℕ × List Found) (i : Image) (rs : List Record) → map (checkpoint_of p) s.1 ≡ i.checkpoints p → map (checkpoint_of p) (fold (marked_next p) s rs).1 ≡ (fold (λ i r. noted i r.content) i rs).checkpoints p
-  stands_from s i [] e = e
-  stands_from s i (r ∷ rs) e = stands_from (marked_next p s r) (noted i r.content) rs (marks_as (s.0 + 1) s.1 i r.content e)
+  stands_from : (n : ℕ) (cs : List Found) (i : Image) (rs : List Record) → map (checkpoint_of p) cs ≡ i.checkpoints p → map (checkpoint_of p) (fold (marked_next p) cs (enumerate_from n rs)) ≡ (fold (λ i r. noted i r.content) i rs).checkpoints p
+  stands_from n cs i [] e = e
+  stands_from n cs i (r ∷ rs) e = stands_from (n + 1) (marked p n cs r.content) (noted i r.content) rs (marks_as n cs i r.content e)
 
   stands_as : (rs : List Record) → map (checkpoint_of p) (standing p rs) ≡ (reading rs).checkpoints p
-  stands_as rs = stands_from (0, []) (record { rows = λ p. []; checkpoints = λ p. [] }) rs refl
-
-  counts_from : (s : ℕ × List Found) (rs : List Record) → (fold (marked_next p) s rs).0 ≡ s.0 + length rs
-  counts_from s [] = omega arith
-  counts_from s (r ∷ rs) = omega (arith, counts_from (marked_next p s r) rs)
-
-  pub standing_more : (rs : List Record) (i : ℕ) (r : Record) → slice_get rs i ≡ Some r → standing p (take (i + 1) rs) ≡ marked p (i + 1) (standing p (take i rs)) r.content
-  standing_more rs i r is =
-      ap (standing p) (taken_more rs i r is)
-      ∙ ap (λ (s : ℕ × List Found). s.1) (fold_push (marked_next p) (0, []) (take i rs) r)
-      ∙ ap (λ n. marked p (n + 1) (standing p (take i rs)) r.content) (count (cases_lt i (length rs)))
-    where
-      count : (i < length rs) ⊎ (length rs ≤ i) → (fold (marked_next p) (0, []) (take i rs)).0 ≡ i
-      count (inl h) = omega (arith, counts_from (0, []) (take i rs), length-take i rs)
-      count (inr h) = absurd (let past = nth_past rs i h in let z : ◌≡◌ {A = ℕ} 0 1 = cc in omega arith)
-
--- a turn of the loop over the records
-module _ (p : ℕ) (rs : List Record) (i : ℕ) (slots : List (Option Found)) (holds : Holds (standing p (take i rs)) slots) where
-  pub marks_some : (r : Record) (left : List (Option Found)) → slice_get rs i ≡ Some r → ((cs : List Found) → Holds cs slots → Holds (marked p (i + 1) cs r.content) left) → Holds (standing p (take (i + 1) rs)) left
-  marks_some r left is marks = subst (λ cs. Holds cs left) (sym (standing_more p rs i r is)) (marks (standing p (take i rs)) holds)
-
-  pub marks_none : slice_get rs i ≡ None → Holds (standing p (take (i + 1) rs)) slots
-  marks_none is = subst (λ xs. Holds (standing p xs) slots) (sym (taken_same rs i is)) holds
+  stands_as rs = stands_from 1 [] (record { rows = λ p. []; checkpoints = λ p. [] }) rs refl
 
 -- what is picked of the checkpoints alone
 module _ (M : Meaning) (p : ℕ) where

@@ -1,6 +1,6 @@
 -- Slots that hold the last checkpoint of each index.
-use Rattle.std.proofs.Common.{◌≡◌, ℕ, ◌+◌, ◌<◌, ◌≤◌, cond, eqb, leb, ◌≢◌, ◌⊎◌, List, [], ◌∷◌, ◌++◌, length, get_or, set, replicate, Some, None, fold, filter, Option, sym, refl, ap, ◌∙◌, subst, inl, inr, arith}
-use Rattle.std.proofs.lemmas.List.{get_or-replicate, get_or_past, get_or-set_same, get_or-set_other, length-set}
+use Rattle.std.proofs.Common.{◌≡◌, ℕ, ◌<◌, ◌≤◌, cond, eqb, leb, ◌⊎◌, List, [], ◌∷◌, ◌++◌, length, get_or, set, replicate, Some, None, fold, filter, Option, sym, refl, ap, ◌∙◌, subst, inl, inr, arith}
+use Rattle.std.proofs.lemmas.List.{get_or-replicate, get_or-set_same, get_or-set_other}
 use Rattle.std.proofs.lemmas.List.Sums.{fold_push}
 use Rattle.std.proofs.lemmas.Bool.{cases_lt, cases_eq, cond-true, cond-false, le-leb, lt-leb, eq-eqb, ne_eqb}
 use Rattle.records.specs.declared.Checkpoint.{Checkpoint}
@@ -59,31 +59,3 @@ module _ (p n : ℕ) (c : Checkpoint) (slots : List (Option Found)) where
   holds_own long small own cs holds =
       subst (λ fs. Holds fs (set slots c.index (Some (numbered n c)))) (sym (cond-true (eqb p c.process) (cs ++ (numbered n c ∷ [])) cs (eq-eqb p c.process own)))
       (holds_push cs slots (numbered n c) long small holds)
-
--- the slots above e and below i are emptied
-pub record Dropped (e i : ℕ) (slots left : List (Option Found)) : Type 0 where
-  pub above : e < i
-  pub long : length left ≡ 256
-  pub gone : (k : ℕ) → e < k → k < i → get_or left k None ≡ None
-  pub rest : (k : ℕ) → k ≤ e → get_or left k None ≡ get_or slots k None
-
-module _ (e : ℕ) (slots : List (Option Found)) where
-  pub dropped_more : (i : ℕ) (left : List (Option Found)) → i < 256 → Dropped e i slots left → Dropped e (i + 1) slots (set left i None)
-  dropped_more i left small dropped = record {
-    above = omega (arith, dropped.above);
-    long = length-set left i None ∙ dropped.long;
-    gone = λ k a b. go k a b (cases_eq k i);
-    rest = λ k a. let ne : k ≢ i = omega (arith, dropped.above) in get_or-set_other left i k None None ne ∙ dropped.rest k a;
-  }
-    where
-      go : (k : ℕ) → e < k → k < i + 1 → (k ≡ i) ⊎ (k ≡ i → ⊥) → get_or (set left i None) k None ≡ None
-      go k a b (inl s) = ap (λ j. get_or (set left i None) j None) s ∙ get_or-set_same left i None None (omega (arith, dropped.long))
-      go k a b (inr n) = get_or-set_other left i k None None n ∙ dropped.gone k a (omega arith)
-
-  pub dropped_all : (i : ℕ) (left : List (Option Found)) → 256 ≤ i → Dropped e i slots left → (k : ℕ) → get_or left k None ≡ cond (leb k e) (get_or slots k None) None
-  dropped_all i left h dropped k = go (cases_lt e k) (cases_lt k i)
-    where
-      go : (e < k) ⊎ (k ≤ e) → (k < i) ⊎ (i ≤ k) → get_or left k None ≡ cond (leb k e) (get_or slots k None) None
-      go (inr a) b = dropped.rest k a ∙ sym (cond-true (leb k e) (get_or slots k None) None (le-leb k e a))
-      go (inl a) (inl b) = dropped.gone k a b ∙ sym (cond-false (leb k e) (get_or slots k None) None (lt-leb k e a))
-      go (inl a) (inr b) = get_or_past left k None (omega (arith, dropped.long)) ∙ sym (cond-false (leb k e) (get_or slots k None) None (lt-leb k e a))

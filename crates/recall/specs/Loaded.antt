@@ -1,5 +1,6 @@
 -- What a table holds once a store is read into it.
-use Rattle.std.specs.Prelude.{◌≡◌, ℕ, false, cond, List, [], length, take, ◌==◌, nat_lt, slice_index}
+use Rattle.std.specs.Prelude.{◌≡◌, ℕ, ◌+◌, false, cond, List, [], length, take, drop, ◌==◌, nat_lt, slice_index}
+use Rattle.std.specs.List.{enumerate_from}
 use Rattle.programs.specs.declared.values.State.{State}
 use Rattle.records.specs.declared.Content.{Content}
 use Rattle.records.specs.declared.Content.TheVariants as content
@@ -15,6 +16,10 @@ use Rattle.histories.specs.Reading.{reading}
 -- what can be read of a store: its records, and none while it is dead
 abbrev pub readable : store.Meaning → List Record
 readable m = cond m.alive m.records []
+
+-- what is still to be read once so many records are passed: each with its number, counted from 1
+abbrev pub unread : store.Meaning → ℕ → List (ℕ × Record)
+unread m passed = enumerate_from (passed + 1) (drop passed (readable m))
 
 -- down, and nothing stands
 abbrev pub emptied : Held → Held

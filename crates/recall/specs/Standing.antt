@@ -1,5 +1,6 @@
 -- The checkpoints of a process that stand, and the one that its replay begins at.
-use Rattle.std.specs.Prelude.{◌≡◌, ℕ, ◌+◌, ◌<◌, cond, List, [], ◌∷◌, ◌++◌, Some, None, fold, filter, Option, ◌==◌, nat_le, slice_index, slice_index_or}
+use Rattle.std.specs.Prelude.{◌≡◌, ℕ, ◌<◌, cond, List, [], ◌∷◌, ◌++◌, Some, None, fold, filter, Option, ◌==◌, nat_le, slice_index, slice_index_or}
+use Rattle.std.specs.List.{enumerate_from}
 use Rattle.programs.specs.Program.{Meaning}
 use Rattle.programs.specs.declared.values.State.{State}
 use Rattle.records.specs.declared.Checkpoint.{Checkpoint}
@@ -19,13 +20,13 @@ marked p n cs (content.Interval x) = cs
 marked p n cs (content.Checkpoint c) = cond (p == c.process) (cs ++ (numbered n c ∷ [])) cs
 marked p n cs (content.Line entries) = filter (λ f. nat_le f.index (slice_index entries p)) cs
 
--- how many records there were, and what stands after them
-abbrev pub marked_next : ℕ → ℕ × List Found → Record → ℕ × List Found
-marked_next p s r = (s.0 + 1, marked p (s.0 + 1) s.1 r.content)
+-- what a record makes of them, by its number
+abbrev pub marked_next : ℕ → List Found → ℕ × Record → List Found
+marked_next p cs (n, r) = marked p n cs r.content
 
 -- the checkpoints of process p that stand, in the order of their records, which are counted from 1
 abbrev pub standing : ℕ → List Record → List Found
-standing p rs = (fold (marked_next p) (0, []) rs).1
+standing p rs = fold (marked_next p) [] (enumerate_from 1 rs)
 
 -- the higher of two, of equal ones the later
 abbrev pub higher : Option Found → Found → Option Found

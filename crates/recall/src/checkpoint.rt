@@ -5,7 +5,7 @@ ghost use Rattle.histories.specs.Reading.{reading};
 ghost use Rattle.recall.specs.Loaded.{readable};
 ghost use Rattle.recall.specs.Standing.{Holds, marked, standing, highest, origin_within, begins};
 
-use crate::fetch::record_at;
+use crate::fetch::Records;
 use programs::values::State;
 use records::Content;
 use stores::store::Store;
@@ -66,10 +66,8 @@ pub fn find_checkpoint<S: Store>(store: &S, process: u8, entry: u8) -> Option<Fo
     ensures begins { (M : Meaning) → origin_within M process entry ((reading (readable (S.Store.means store.now))).checkpoints process) ≡ begins M process result }
 {
     let mut slots = [None; 256];
-    for i in 0..store.count() {
-        if let Some(found) = record_at(store, i) {
-            mark(&mut slots, process, i + 1, found.content);
-        }
+    for (number, record) in Records::of(store) {
+        mark(&mut slots, process, number, record.content);
     }
     highest(&slots, entry)
 }

@@ -4,7 +4,7 @@ ghost use Rattle.rows.specs.Rows.{held, all_saved};
 ghost use Rattle.tables.specs.Tables.{Changes};
 ghost use Rattle.recall.specs.Loaded.{Loaded, emptied, noted_row};
 
-use crate::fetch::record_at;
+use crate::fetch::Records;
 use records::Content;
 use rows::row::Row;
 use stores::store::Store;
@@ -54,10 +54,8 @@ pub fn load<S: Store>(store: &S, table: &mut Table)
     ensures { Loaded (S.Store.means store.now) table.old table.new }
 {
     clear_all(table);
-    for i in 0..store.count() {
-        if let Some(found) = record_at(store, i) {
-            note(table, found.content);
-        }
+    for (_, record) in Records::of(store) {
+        note(table, record.content);
     }
     save_all(table);
 }
