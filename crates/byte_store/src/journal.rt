@@ -9,7 +9,7 @@ use records::Record;
 use stores::medium::{Medium, Over};
 use stores::store::MAX_CAPACITY;
 
-// One more than there are frames: none ends at 0.
+// One more than there are frames: the first entry is where no frames end, 0.
 const ENDS: usize = MAX_CAPACITY + 1;
 
 // The records are the first `count` frames; an array with a count, as there is no heap.

@@ -11,7 +11,8 @@ abbrev pub First : List Test → calls.Refusal → Type 0
 First [] r = ⊥
 First (t ∷ ts) r = ((t.0 ≡ true) × (t.1 ≡ r)) ⊎ ((t.0 ≡ false) × First ts r)
 
--- let through, with an x of which Q holds, exactly where no test holds
+-- let through, with an x of which Q holds, exactly where no test holds; by recursion, since by index the proofs of the checks,
+-- whose lists are written out, didn't close
 abbrev pub Checked : {T : Type 0} → List Test → (T → Type 0) → Result T Refusal → Type 0
 Checked ts Q (Ok x) = AllByRecursion (λ t. t.0 ≡ false) ts × Q x
 Checked ts Q (Err e) = First ts (refusal e)

@@ -5,12 +5,12 @@ ghost use Rattle.stores.specs.Meaning.{Meaning as Stored, count};
 ghost use Rattle.tables.specs.Tables.{processes, family, row_of};
 ghost use Rattle.histories.specs.Calls as call;
 ghost use Rattle.histories.specs.Calls.{by_host, by_store};
-ghost use Rattle.histories.specs.Tests.{tests, shown, absent, dark, down, no_room, unsaved};
+ghost use Rattle.histories.specs.Tests.{shown, absent, dark, down, no_room, unsaved};
 ghost use Rattle.lines.specs.Lines.{greatest_line};
 ghost use Rattle.rows.specs.Outputs.{nth_output};
 ghost use Rattle.checks.specs.Checks.{Checked};
 ghost use Rattle.checks.specs.Deliveries.{Next};
-ghost use Rattle.checks.specs.Worlds.{world_of, committed_outputs};
+ghost use Rattle.checks.specs.Worlds.{world_of, tests_of, committed_outputs};
 
 use crate::refusal::Refusal;
 use crate::single::{limited, numbered};
@@ -42,7 +42,7 @@ pub fn check_room<S: Store>(store: &S, records: u64) -> Result<(), Refusal>
 impl HostState {
     // The process that the input is for.
     pub fn check_input(&self, process: u64, number: u64) -> Result<u8, Refusal>
-        ensures { (m : Stored) (v : ℕ) → Checked (tests (processes self.now.table) (world_of self.now.table self.now.dark m) (call.input process number v)) (λ p. p ≡ process) result }
+        ensures { (m : Stored) (v : ℕ) → Checked (tests_of self.now m (call.input process number v)) (λ p. p ≡ process) result }
     {
         let p = self.existing(process, 1)?;
         numbered(number, 2)?;
@@ -59,7 +59,7 @@ impl HostState {
     }
 
     pub fn check_deliver(&self, source: u64, target: u64) -> Result<Delivery, Refusal>
-        ensures { (m : Stored) → Checked (tests (processes self.now.table) (world_of self.now.table self.now.dark m) (call.deliver source target)) (Next (family self.now.table) source target) result }
+        ensures { (m : Stored) → Checked (tests_of self.now m (call.deliver source target)) (Next (family self.now.table) source target) result }
     {
         let q = self.existing(source, 1)?;
         let p = self.existing(target, 2)?;
@@ -75,8 +75,8 @@ impl HostState {
 
     // The process that is to crash, or to be looked at.
     pub fn check_process(&self, process: u64) -> Result<u8, Refusal>
-        ensures crash { (m : Stored) → Checked (tests (processes self.now.table) (world_of self.now.table self.now.dark m) (call.crash process)) (λ p. p ≡ process) result }
-        ensures look { (m : Stored) → Checked (tests (processes self.now.table) (world_of self.now.table self.now.dark m) (call.look process)) (λ p. p ≡ process) result }
+        ensures crash { (m : Stored) → Checked (tests_of self.now m (call.crash process)) (λ p. p ≡ process) result }
+        ensures look { (m : Stored) → Checked (tests_of self.now m (call.look process)) (λ p. p ≡ process) result }
     {
         let found = self.existing(process, 1)?;
         self.standing(found)?;
@@ -84,13 +84,13 @@ impl HostState {
     }
 
     pub fn check_fail(&self, fuse: u64) -> Result<(), Refusal>
-        ensures { (m : Stored) → Checked (tests (processes self.now.table) (world_of self.now.table self.now.dark m) (call.fail fuse)) (λ _. Unit {0}) result }
+        ensures { (m : Stored) → Checked (tests_of self.now m (call.fail fuse)) (λ _. Unit {0}) result }
     {
         limited(fuse, 1)
     }
 
     pub fn check_restart(&self, j: u64) -> Result<(), Refusal>
-        ensures { (m : Stored) → Checked (tests (processes self.now.table) (world_of self.now.table self.now.dark m) (call.restart j)) (λ _. Unit {0}) result }
+        ensures { (m : Stored) → Checked (tests_of self.now m (call.restart j)) (λ _. Unit {0}) result }
     {
         limited(j, 1)?;
         if !self.dark {
@@ -101,7 +101,7 @@ impl HostState {
 
     // What a recovery is refused for before its line is known.
     pub fn check_recover(&self) -> Result<(), Refusal>
-        ensures { (m : Stored) → Checked (take 2 (tests (processes self.now.table) (world_of self.now.table self.now.dark m) call.recover)) (λ _. Unit {0}) result }
+        ensures { (m : Stored) → Checked (take 2 (tests_of self.now m call.recover)) (λ _. Unit {0}) result }
     {
         self.awake()?;
         if self.are_all_up() {
@@ -129,7 +129,7 @@ impl HostState {
 
     // The output that is to be shown.
     pub fn check_show(&self, process: u64, n: u64) -> Result<u64, Refusal>
-        ensures { (m : Stored) → Checked (tests (processes self.now.table) (world_of self.now.table self.now.dark m) (call.show process n)) (λ v. v ≡ slice_index (shown (processes self.now.table) (world_of self.now.table self.now.dark m) process) (n - 1)) result }
+        ensures { (m : Stored) → Checked (tests_of self.now m (call.show process n)) (λ v. v ≡ slice_index (shown (processes self.now.table) (world_of self.now.table self.now.dark m) process) (n - 1)) result }
     {
         let p = self.existing(process, 1)?;
         numbered(n, 2)?;
@@ -149,13 +149,13 @@ impl HostState {
     }
 
     pub fn check_save<S: Store>(&self, store: &S, process: u64) -> Result<u8, Refusal>
-        ensures { Checked (tests (processes self.now.table) (world_of self.now.table self.now.dark (S.Store.means store.now)) (call.save process)) (λ p. p ≡ process) result }
+        ensures { Checked (tests_of self.now (S.Store.means store.now) (call.save process)) (λ p. p ≡ process) result }
     {
         self.check_writing(store, process, 0)
     }
 
     pub fn check_mark<S: Store>(&self, store: &S, process: u64) -> Result<u8, Refusal>
-        ensures { Checked (tests (processes self.now.table) (world_of self.now.table self.now.dark (S.Store.means store.now)) (call.mark process)) (λ p. p ≡ process) result }
+        ensures { Checked (tests_of self.now (S.Store.means store.now) (call.mark process)) (λ p. p ≡ process) result }
     {
         self.check_writing(store, process, 1)
     }

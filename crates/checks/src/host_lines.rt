@@ -1,9 +1,10 @@
 // The lines that a host takes, and whether one has to be recorded.
-ghost use Rattle.std.specs.Prelude.{◌≡◌, ℕ, length, if◌then◌else◌};
+ghost use Rattle.std.specs.Prelude.{◌≡◌, ℕ};
 ghost use Rattle.lines.specs.Lines.{greatest_line};
 ghost use Rattle.tables.specs.Answers.{line_of};
 ghost use Rattle.tables.specs.Tables.{processes, family, row_of};
 ghost use Rattle.histories.specs.Tests.{some_above, line_records, all_up};
+ghost use Rattle.checks.specs.Worlds.{left_of};
 
 use crate::state::HostState;
 use std::array;
@@ -20,7 +21,7 @@ impl HostState {
 
     // What a recovery may go back to: the saved count of a down process, the number of intervals of an up one.
     fn left(&self, process: u8) -> u8
-        ensures { result ≡ (if (row_of self.now.table process).up then length (row_of self.now.table process).intervals else (row_of self.now.table process).saved) }
+        ensures { result ≡ left_of self.now process }
     {
         if self.table.is_up(process) {
             self.table.intervals(process).len() as u8
@@ -30,12 +31,12 @@ impl HostState {
     }
 
     fn left_counts(&self) -> [u8; 8]
-        ensures { (p : ℕ) → line_of result p ≡ (if (row_of self.now.table p).up then length (row_of self.now.table p).intervals else (row_of self.now.table p).saved) }
+        ensures { (p : ℕ) → line_of result p ≡ left_of self.now p }
     {
         array::from_fn(|p| self.left(p as u8))
     }
 
-    // The committed line: the greatest within the saved counts. It and the next differ in the counts alone, which name them.
+    // The committed line: the greatest within the saved counts. It and the next, and their counts above, are no plainer as one: each would name the other's counts.
     pub fn committed_line(&self) -> [u8; 8]
         ensures { (p : ℕ) → line_of result p ≡ greatest_line (processes self.now.table) (family self.now.table) (λ q. (row_of self.now.table q).saved) p }
     {
@@ -44,7 +45,7 @@ impl HostState {
 
     // The line of a recovery: the greatest within what is left.
     pub fn recovery_line(&self) -> [u8; 8]
-        ensures { (p : ℕ) → line_of result p ≡ greatest_line (processes self.now.table) (family self.now.table) (λ q. (if (row_of self.now.table q).up then length (row_of self.now.table q).intervals else (row_of self.now.table q).saved)) p }
+        ensures { (p : ℕ) → line_of result p ≡ greatest_line (processes self.now.table) (family self.now.table) (left_of self.now) p }
     {
         greatest_line(&self.table, &self.left_counts())
     }

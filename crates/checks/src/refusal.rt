@@ -92,6 +92,7 @@ impl Refusal {
     }
 }
 
+// By hand: of a derived conversion no contract speaks.
 impl From<StoreFault> for Refusal {
     ghost from_gives = { λ e r. r ≡ StoreDied e };
 

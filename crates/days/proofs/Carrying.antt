@@ -44,9 +44,3 @@ module _ (e : Entry) (a b c : Shop) (first : Advanced orders (input e) a.run b.r
 
 pub longer : (before after : List Output) (os : List Output) → after ≡ before ++ os → length before ≤ length after
 longer before after os e = omega (arith, simp length-append at (ap length e))
-
--- what stands after the first n outputs is what came out since there were n
-pub told_since : (e : Entry) (a b : Shop) (g : Grown a.run b.run) (n : ℕ) (after part : List Output) (left : ℕ) (events : List Event) → n ≡ length (issued a) → after ≡ issued b →
-    part ≡ drop n after → left ≡ pieces_left b → events ≡ told e part left → Told e a b events
-told_since e a b g n after part left events ea eb ep el ee =
-    (g.0, (g.1, ee ∙ ap (λ os. told e os left) (ep ∙ ap (drop n) (eb ∙ g.1) ∙ drop_at (issued a) g.0 n (sym ea)) ∙ ap (told e g.0) el))

@@ -34,6 +34,7 @@ impl BadLine {
     }
 }
 
+// By hand: of a derived text no contract speaks.
 impl fmt::Display for BadLine {
     ghost output = { λ b. Some (bad_text b) };
 

@@ -16,14 +16,10 @@ fn play_line(rt: &HostRuntime, shop: &mut Shop, number: u64, line: &str) -> anyh
     Ok(())
 }
 
-fn play_day(rt: &HostRuntime) -> anyhow::Result<()> {
+fn main(rt: HostRuntime) -> anyhow::Result<()> {
     let mut shop = Shop::open(rt.alloc())?;
     for (number, line) in (1..).zip(rt.lines(rt.alloc())) {
-        play_line(rt, &mut shop, number, line?.as_str())?;
+        play_line(&rt, &mut shop, number, line?.as_str())?;
     }
     Ok(())
-}
-
-fn main(rt: HostRuntime) -> anyhow::Result<()> {
-    play_day(&rt)
 }

@@ -19,6 +19,7 @@ pub(crate) const CHECKPOINT_LONG: u8 = 37;
 
 pub(crate) const LINE_LONG: u8 = 11;
 
+// These and the kinds below are the format's numbers; a case carries its fields, and so cannot be its own number.
 fn long(content: &Content) -> u8
     ensures { result ≡ long content.now }
 {
@@ -75,7 +76,7 @@ pub fn write_frame(out: &mut [u8], at: usize, record: &Record) -> Option<usize>
     Some(pen.at)
 }
 
-// Lent bytes, and the place at which the next ones are put.
+// Lent bytes, and the place at which the next ones are put. No fact stands in the type: each part asks for its own length ahead.
 #[derive(Drop)]
 struct Pen<'a> {
     out: &'a mut [u8],

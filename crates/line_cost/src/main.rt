@@ -36,8 +36,8 @@ fn fill(row: &mut Row, process: u8, ring: bool) {
     }
 }
 
-fn measure(rt: &HostRuntime) -> anyhow::Result<()> {
-    let mut args = env::args(rt)?;
+fn main(rt: HostRuntime) -> anyhow::Result<()> {
+    let mut args = env::args(&rt)?;
     let _ = args.next();
     let kind = args.next().context("which table: whole, chain or domino")?;
     let times = args.next().context("how often")?;
@@ -52,8 +52,4 @@ fn measure(rt: &HostRuntime) -> anyhow::Result<()> {
     }
     println!(rt; "{line:?}")?;
     Ok(())
-}
-
-fn main(rt: HostRuntime) -> anyhow::Result<()> {
-    measure(&rt)
 }

@@ -80,7 +80,7 @@ fn tell(rt: &HostRuntime, what: &str, counts: &[u8; 8]) -> anyhow::Result<()> {
     Ok(())
 }
 
-fn show(rt: &HostRuntime) -> anyhow::Result<()> {
+fn main(rt: HostRuntime) -> anyhow::Result<()> {
     let order = Order {
         number: 1,
         quantity: 3,
@@ -93,7 +93,7 @@ fn show(rt: &HostRuntime) -> anyhow::Result<()> {
     shop.deliver(INTAKE, STOCK)?;
     shop.deliver(STOCK, DISPATCH)?;
     tell(
-        rt,
+        &rt,
         "Ten pieces came in and order 1 took three. Intervals recorded:",
         &shop.counts(),
     )?;
@@ -101,22 +101,18 @@ fn show(rt: &HostRuntime) -> anyhow::Result<()> {
     shop.crash(STOCK);
     let left = shop.counts();
     tell(
-        rt,
+        &rt,
         "Stock crashes with nothing saved. Intervals left:",
         &left,
     )?;
 
     let line = greatest_line(&shop.table, &left);
     tell(
-        rt,
+        &rt,
         "Dispatch took a message that stock, as it stands, never sent. The recovery line:",
         &line,
     )?;
 
     shop.table.cut(&line);
-    tell(rt, "Cut back to the line:", &shop.counts())
-}
-
-fn main(rt: HostRuntime) -> anyhow::Result<()> {
-    show(&rt)
+    tell(&rt, "Cut back to the line:", &shop.counts())
 }

@@ -15,6 +15,7 @@ pub trait Program {
     fn start(&self, process: u8) -> State
         ensures { result ≡ (means self.now).start process };
 
+    // The arguments are those that the rules name.
     // What a process does with a value from `source`, a process or `OUTSIDE`.
     fn step(&self, process: u8, state: State, source: u8, value: u64) -> Step
         ensures { result ≡ (means self.now).step process state source value };

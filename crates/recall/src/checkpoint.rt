@@ -1,5 +1,5 @@
 // The search for the checkpoint that the replay of a process begins at.
-ghost use Rattle.std.specs.Prelude.{◌≡◌, ℕ, List, if◌then◌else◌, None, nat_le, slice_index, slice_index_or};
+ghost use Rattle.std.specs.Prelude.{◌≡◌, ℕ, List, if◌then◌else◌, None, nat_le, slice_index_or};
 ghost use Rattle.programs.specs.Program.{Meaning};
 ghost use Rattle.histories.specs.Reading.{reading};
 ghost use Rattle.recall.specs.Loaded.{readable};
@@ -48,7 +48,7 @@ fn mark(slots: &mut Slots, process: u8, number: u64, content: Content)
     }
 }
 
-// The highest at or below the entry.
+// The highest at or below the entry. A loop: as a `fold` the proof didn't close.
 fn highest(slots: &Slots, entry: u8) -> Option<Found>
     ensures { (cs : List Found) → Holds cs slots.now → result ≡ highest entry cs }
 {

@@ -7,10 +7,6 @@ use std::test::Fail;
 use tables::line::greatest_line;
 use tables::table::Table;
 
-fn line_within(table: &Table, counts: [u8; 8]) -> [u8; 8] {
-    greatest_line(table, &counts)
-}
-
 // Stock, order, its delivery to stock and the picking note at dispatch.
 #[test]
 fn a_lost_interval_makes_orphans(rt: HostRuntime) -> Result<(), Fail> {
@@ -27,7 +23,7 @@ fn a_lost_interval_makes_orphans(rt: HostRuntime) -> Result<(), Fail> {
         ([0; 8], [0; 8]),
         ([255; 8], [1, 2, 1, 0, 0, 0, 0, 0]),
     ] {
-        assert_eq!(rt; line_within(&table, counts), line);
+        assert_eq!(rt; greatest_line(&table, &counts), line);
     }
     Ok(())
 }
@@ -43,9 +39,9 @@ fn a_chain_through_all_processes(rt: HostRuntime) -> Result<(), Fail> {
         take_input(&rt, &mut table, count - 1)?;
         let mut counts = [1; 8];
         counts[count as usize - 1] = 0;
-        assert_eq!(rt; line_within(&table, counts), [0; 8]);
+        assert_eq!(rt; greatest_line(&table, &counts), [0; 8]);
         let whole: [u8; 8] = array::from_fn(|p| u8::from(p < count as usize));
-        assert_eq!(rt; line_within(&table, [1; 8]), whole);
+        assert_eq!(rt; greatest_line(&table, &[1; 8]), whole);
     }
     Ok(())
 }
@@ -61,14 +57,14 @@ fn a_domino_effect(rt: HostRuntime) -> Result<(), Fail> {
     }
     take(&rt, &mut table, 1, 0, 96)?;
     assert_eq!(rt;
-        line_within(&table, [96, 96, 0, 0, 0, 0, 0, 0]),
+        greatest_line(&table, &[96, 96, 0, 0, 0, 0, 0, 0]),
         [96, 96, 0, 0, 0, 0, 0, 0]
     );
     assert_eq!(rt;
-        line_within(&table, [96, 40, 0, 0, 0, 0, 0, 0]),
+        greatest_line(&table, &[96, 40, 0, 0, 0, 0, 0, 0]),
         [41, 40, 0, 0, 0, 0, 0, 0]
     );
-    assert_eq!(rt; line_within(&table, [0, 96, 0, 0, 0, 0, 0, 0]), [0; 8]);
+    assert_eq!(rt; greatest_line(&table, &[0, 96, 0, 0, 0, 0, 0, 0]), [0; 8]);
     Ok(())
 }
 
@@ -79,8 +75,8 @@ fn own_messages(rt: HostRuntime) -> Result<(), Fail> {
     take_input(&rt, &mut table, 0)?;
     take(&rt, &mut table, 0, 0, 1)?;
     take(&rt, &mut table, 0, 0, 9)?;
-    assert_eq!(rt; line_within(&table, [255; 8]), [2, 0, 0, 0, 0, 0, 0, 0]);
-    assert_eq!(rt; line_within(&table, [1; 8]), [1, 0, 0, 0, 0, 0, 0, 0]);
+    assert_eq!(rt; greatest_line(&table, &[255; 8]), [2, 0, 0, 0, 0, 0, 0, 0]);
+    assert_eq!(rt; greatest_line(&table, &[1; 8]), [1, 0, 0, 0, 0, 0, 0, 0]);
     Ok(())
 }
 
@@ -91,7 +87,7 @@ fn sources_that_do_not_exist(rt: HostRuntime) -> Result<(), Fail> {
     for source in [OUTSIDE, 2, 7, 255] {
         take(&rt, &mut table, 0, source, 50)?;
     }
-    assert_eq!(rt; line_within(&table, [255; 8]), [4, 0, 0, 0, 0, 0, 0, 0]);
+    assert_eq!(rt; greatest_line(&table, &[255; 8]), [4, 0, 0, 0, 0, 0, 0, 0]);
     Ok(())
 }
 
@@ -160,7 +156,7 @@ fn against_all_lines_of_small_tables(rt: HostRuntime) -> Result<(), Fail> {
             0,
             0,
         ];
-        assert_eq!(rt; line_within(&table, counts), highest(&table, counts));
+        assert_eq!(rt; greatest_line(&table, &counts), highest(&table, counts));
     }
     Ok(())
 }

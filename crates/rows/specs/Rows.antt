@@ -1,5 +1,5 @@
 -- What a row holds, and what each change makes of it.
-use Rattle.std.specs.Prelude.{ℕ, min, Bool, true, false, cond, List, [], ◌∷◌, ◌++◌, length, take, Ok, Err, Result, nat_lt}
+use Rattle.std.specs.Prelude.{ℕ, min, Bool, true, false, cond, List, [], ◌∷◌, ◌++◌, length, take, drop, Ok, Err, Result, nat_lt}
 use Rattle.programs.specs.declared.values.State.{State}
 use Rattle.records.specs.declared.Interval.{Interval}
 use Rattle.rows.specs.declared.full.RowFull.{RowFull}
@@ -18,6 +18,10 @@ pub record Held : Type 0 where
 
 abbrev pub held : Row → Held
 held row = record { intervals = standing row; saved = row.saved; up = row.up; state = row.state }
+
+-- the intervals that are not saved
+abbrev pub unsaved : Held → List Interval
+unsaved h = drop h.saved h.intervals
 
 -- a process that is up, with no intervals
 abbrev pub fresh : State → Held

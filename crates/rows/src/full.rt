@@ -9,6 +9,7 @@ use std::fmt;
 #[derive(Clone, Copy, PartialEq, Eq, Debug)]
 pub struct RowFull;
 
+// By hand: of a derived text no contract speaks.
 impl fmt::Display for RowFull {
     ghost output = { λ _. Some full_text };
 

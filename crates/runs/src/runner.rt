@@ -55,6 +55,7 @@ pub enum RunError {
     Memory,
 }
 
+// By hand, as a derive's conversions and texts have no contract.
 // `reserve` fails with an `AllocError` and `push` with the value that it refused; `?` converts each by an impl of its own
 impl From<AllocError> for RunError {
     ghost from_gives = { λ _ r. r ≡ Memory };

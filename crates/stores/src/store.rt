@@ -2,7 +2,7 @@
 ghost use Rattle.std.specs.Prelude.{◌≡◌, ◌≤◌, length};
 ghost use Rattle.stores.specs.Calls.{appended, synced, armed, fetched, revived, kept, unsafe_count, room};
 ghost use Rattle.stores.specs.Faults.{answer};
-ghost use Rattle.stores.specs.Laws.{Lasting};
+ghost use Rattle.stores.specs.Laws.{Lasting, SafeRecordsLast};
 ghost use Rattle.stores.specs.Meaning.{Meaning, Sound};
 
 use crate::fault::Fault;
@@ -59,6 +59,7 @@ pub trait Store {
     fn lasting_count(&self) -> u64
         ensures value { result ≡ (means self.now).safe }
         ensures lasting { Lasting (means self.now) }
+        ensures law { SafeRecordsLast }
     {
         self.safe_count()
     }

@@ -28,23 +28,6 @@ module _ (t : Table) (p : ℕ) (row : Row) (long : length t.rows ≡ 8) (exists 
     others = λ r n. ap (λ h. cond (ltb r (processes t)) h idle) (ap (λ hs. get_or hs r idle) (map-set held t.rows p row) ∙ get_or-set_other (map held t.rows) p r (held row) idle n);
   }
 
--- what is no process has no intervals, so its count is cut to 0 either way
-pub clip_is : (t : Table) (c : Line) (p : ℕ) → min (c p) (length (family t p)) ≡ clipped (processes t) (family t) c p
-clip_is t c p = go (cases_lt p (processes t))
-  where
-    go : (p < processes t) ⊎ (processes t ≤ p) → min (c p) (length (family t p)) ≡ clipped (processes t) (family t) c p
-    go (inl h) = sym (cond-true (ltb p (processes t)) (min (c p) (length (family t p))) 0 (lt-ltb p (processes t) h))
-    go (inr h) =
-        let test = le-ltb p (processes t) h in
-        let none : length (family t p) ≡ 0 = ap (λ h. length h.intervals) (cond-false (ltb p (processes t)) (get_or (map held t.rows) p idle) idle test) in
-        let zero : min (c p) (length (family t p)) ≡ 0 = omega arith in
-        zero ∙ sym (cond-false (ltb p (processes t)) (min (c p) (length (family t p))) 0 test)
-
--- behind the eight entries a line has none
-pub clip_past : (t : Table) (c : Line) (xs : List ℕ) (p : ℕ) → length xs ≡ 8 → 8 ≤ p → line_of xs p ≡ clipped (processes t) (family t) c p
-clip_past t c xs p long h =
-    get_or_past xs p 0 (omega arith) ∙ sym (cond-false (ltb p (processes t)) (min (c p) (length (family t p))) 0 (le-ltb p (processes t) (omega arith)))
-
 -- one row changed by f
 pub changed_by : (t : Table) (p : ℕ) (old row : Row) (f : Held → Held) → length t.rows ≡ 8 → p < processes t → held row ≡ f (held (get_or t.rows p old)) →
     Changed p (f (row_of t p)) t (record { rows = set t.rows p row; count = t.count })

@@ -123,14 +123,6 @@ pub known_backed : (N : ℕ) (F : Family) (xs : List ℕ) (needs : List (List �
 known_backed N F xs needs p h known reach =
     All-weaker (Backed N (line_of (get_or needs p []))) (Backed N (line_of xs)) (λ x. backed_above N (line_of (get_or needs p [])) (line_of xs) x reach) (take (line_of xs p) (F p)) (known p h reach)
 
--- of needs that no line reaches nothing is said
-pub known_none : (N : ℕ) (F : Family) (xs : List ℕ) → N ≤ 8 → ((p : ℕ) → line_of xs p ≤ 96) → Known N F xs (replicate 8 (replicate 8 255))
-known_none N F xs eight few p h reach =
-    absurd (let r : line_of (get_or (replicate 8 (replicate 8 255)) p []) 0 ≤ line_of xs 0 = reach 0 (omega arith) in
-    let row : get_or (replicate 8 (replicate 8 255)) p [] ≡ replicate 8 255 = get_or-replicate 8 p (replicate 8 255) [] (omega arith) in
-    let top : line_of (get_or (replicate 8 (replicate 8 255)) p []) 0 ≡ 255 = ap (λ ms. line_of ms 0) row in
-    omega (arith, few 0))
-
 pub lower_none : (N : ℕ) (F : Family) (xs : List ℕ) → Lower N F xs xs
 lower_none N F xs = record { below = λ p. omega arith; keeps = λ K consistent within. within }
 
@@ -217,6 +209,3 @@ answers N F c xs ys begins low consistent = record {
         let b = begins p in let l = low.below p in
         let z : line_of ys p ≡ 0 = omega arith in
         z ∙ sym (rounds_zero (total N (clipped N F c)) N F (clipped N F c) p none)
-
-pub clipped_holds : (N : ℕ) (F : Family) (c : Line) (xs : List ℕ) → ((p : ℕ) → line_of xs p ≡ clipped N F c p) → RowsHold N F xs
-clipped_holds N F c xs begins p h = let b = begins p in let is = cond-true (ltb p N) (min (c p) (length (F p))) 0 (lt-ltb p N h) in omega arith

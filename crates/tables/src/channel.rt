@@ -1,8 +1,7 @@
 // The search for the next message that waits between two processes.
-ghost use Rattle.std.specs.Prelude.{◌≡◌, ◌≤◌, length, drop, None, filter, nat_eq};
+ghost use Rattle.std.specs.Prelude.{◌≡◌, drop, None};
 ghost use Rattle.std.specs.Option.{option_map};
 ghost use Rattle.std.specs.List.{slice_get};
-ghost use Rattle.programs.specs.Values.{listed};
 ghost use Rattle.lines.specs.Intervals.{channel};
 ghost use Rattle.tables.specs.Answers.{as_message};
 

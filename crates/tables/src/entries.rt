@@ -1,4 +1,4 @@
-// The entries of a line.
+// The entries of a line. Lines and counts are bare arrays, as a record holds them: a type of their own would be turned into that array at each store.
 ghost use Rattle.std.specs.Prelude.{◌≡◌};
 ghost use Rattle.tables.specs.Answers.{line_of};
 

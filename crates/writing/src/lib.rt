@@ -1,8 +1,9 @@
 // What a host writes to its store: records appended in order, and then one sync.
 #![tactic(auto)]
 
-ghost use Rattle.std.specs.Prelude.{◌≡◌, [], ◌∷◌, ◌++◌, map, length, drop};
+ghost use Rattle.std.specs.Prelude.{◌≡◌, [], ◌∷◌, ◌++◌, map, length};
 ghost use Rattle.stores.specs.Faults.{answer};
+ghost use Rattle.rows.specs.Rows.{unsaved};
 ghost use Rattle.tables.specs.Tables.{row_of};
 ghost use Rattle.histories.specs.Effects.{interval_record, checkpoint_record, written};
 ghost use Rattle.writing.specs.Writing.{last_record, recorded_line};
@@ -29,14 +30,14 @@ fn write<S: Store>(store: &mut S, xs: &[Interval], last: Option<Content>) -> Res
 
 // Saves a process: its intervals that are not saved yet.
 pub fn write_unsaved<S: Store>(store: &mut S, table: &Table, process: u8) -> Result<(), Fault>
-    ensures { (answer result, S.Store.means store.new) ≡ written (map interval_record (drop (row_of table.now process).saved (row_of table.now process).intervals)) (S.Store.means store.old) }
+    ensures { (answer result, S.Store.means store.new) ≡ written (map interval_record (unsaved (row_of table.now process))) (S.Store.means store.old) }
 {
     write(store, table.unsaved_intervals(process), None)
 }
 
 // Marks a process: the same, and behind them a checkpoint, its state after its last interval.
 pub fn write_checkpoint<S: Store>(store: &mut S, table: &Table, process: u8) -> Result<(), Fault>
-    ensures { (answer result, S.Store.means store.new) ≡ written (map interval_record (drop (row_of table.now process).saved (row_of table.now process).intervals) ++ (checkpoint_record process (length (row_of table.now process).intervals) (row_of table.now process).state ∷ [])) (S.Store.means store.old) }
+    ensures { (answer result, S.Store.means store.new) ≡ written (map interval_record (unsaved (row_of table.now process)) ++ (checkpoint_record process (length (row_of table.now process).intervals) (row_of table.now process).state ∷ [])) (S.Store.means store.old) }
 {
     let checkpoint = Content::Checkpoint(Checkpoint {
         process,

@@ -1,9 +1,7 @@
 // Opening a shop, and what it does with an entry.
-ghost use Rattle.std.specs.Prelude.{◌≡◌, [], length};
+ghost use Rattle.std.specs.Prelude.{◌≡◌};
 ghost use Rattle.programs.specs.Orders.{orders};
-ghost use Rattle.runs.specs.Held.{count, configuration};
-ghost use Rattle.runs.specs.Run.{Fresh, Run};
-ghost use Rattle.days.specs.Shop.{Opens, Puts, Carries, Plays, most, pieces_left, standing, issued};
+ghost use Rattle.days.specs.Shop.{Opens, Puts, Carries, Plays, most, pieces_left, issued};
 
 use crate::entry::Entry;
 use crate::event::{Event, tell};

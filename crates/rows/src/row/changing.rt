@@ -1,6 +1,6 @@
 // What changes a row; each method says what the whole row then holds.
-ghost use Rattle.std.specs.Prelude.{◌≡◌, ◌<◌, ◌≤◌, length};
-ghost use Rattle.rows.specs.Rows.{standing, held, fresh, grown, pushed, cut_to, crashed, all_saved, resumed, at_state};
+ghost use Rattle.std.specs.Prelude.{◌≡◌, ◌<◌};
+ghost use Rattle.rows.specs.Rows.{held, fresh, pushed, cut_to, crashed, all_saved, resumed, at_state};
 
 use crate::full::RowFull;
 use crate::row::{MOST, Row};

@@ -1,4 +1,4 @@
-// How a table is made, and cut to a line.
+// How a table is made, and how its rows are changed.
 ghost use Rattle.std.specs.Prelude.{◌≡◌, ℕ};
 ghost use Rattle.rows.specs.Rows.{Held, held, cut_to};
 ghost use Rattle.tables.specs.Answers.{line_of};

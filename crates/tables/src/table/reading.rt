@@ -1,6 +1,6 @@
 // What can be read of a table's process, whatever its number.
-ghost use Rattle.std.specs.Prelude.{◌≡◌, ◌<◌, ◌≤◌, length, drop, MatchOption};
-ghost use Rattle.rows.specs.Rows.{held};
+ghost use Rattle.std.specs.Prelude.{◌≡◌, ◌<◌, ◌≤◌, length, MatchOption};
+ghost use Rattle.rows.specs.Rows.{held, unsaved};
 ghost use Rattle.tables.specs.Tables.{processes, row_of, family};
 
 use crate::table::Table;
@@ -12,9 +12,10 @@ use rows::row::Row;
 impl Table {
     // How many processes there are, of the eight that there is a row for.
     pub fn processes(&self) -> u8
-        ensures { result ≡ processes self.now }
+        ensures value { result ≡ processes self.now }
+        ensures rows { length self.now.rows ≡ 8 }
     {
-        self.count.min(8)
+        self.count.min(self.rows.len() as u8)
     }
 
     // The row of a process; what is no process has none.
@@ -48,7 +49,7 @@ impl Table {
 
     // The intervals of a process that are not saved.
     pub fn unsaved_intervals(&self, process: u8) -> &[Interval]
-        ensures value { result.now ≡ drop (row_of self.now process).saved (row_of self.now process).intervals }
+        ensures value { result.now ≡ unsaved (row_of self.now process) }
         ensures few { length result.now ≤ 96 }
     {
         rest(self.intervals(process), self.saved(process))
@@ -56,7 +57,7 @@ impl Table {
 
     // How many they are.
     pub fn unsaved(&self, process: u8) -> u64
-        ensures value { result ≡ length (drop (row_of self.now process).saved (row_of self.now process).intervals) }
+        ensures value { result ≡ length (unsaved (row_of self.now process)) }
         ensures bound { result ≤ 96 }
     {
         self.unsaved_intervals(process).len() as u64
