@@ -29,5 +29,5 @@ abbrev pub tests_of : HostState → store.Meaning → Call → List Test
 tests_of s m c = tests (processes s.table) (world_of s.table s.dark m) c
 
 -- what a recovery may go back to: the saved count of a down process, the number of intervals of an up one
-abbrev pub left_of : HostState → Line
-left_of s p = if (row_of s.table p).up then length (row_of s.table p).intervals else (row_of s.table p).saved
+abbrev pub left_of : Table → Line
+left_of t p = if (row_of t p).up then length (row_of t p).intervals else (row_of t p).saved

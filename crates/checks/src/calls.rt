@@ -12,6 +12,7 @@ ghost use Rattle.checks.specs.Checks.{Checked};
 ghost use Rattle.checks.specs.Deliveries.{Next};
 ghost use Rattle.checks.specs.Worlds.{world_of, tests_of, committed_outputs};
 
+use crate::host_lines::{are_all_up, committed_line};
 use crate::refusal::Refusal;
 use crate::single::{limited, numbered};
 use crate::state::HostState;
@@ -47,6 +48,7 @@ impl HostState {
         let p = self.existing(process, 1)?;
         numbered(number, 2)?;
         self.standing(p)?;
+        // as `Row::next_input` counts; the row would be looked up beside its intervals, which is no plainer
         let expected = count_from(self.table.intervals(p), OUTSIDE) as u64 + 1;
         if number < expected {
             return Err(Refusal::OldInput);
@@ -104,7 +106,7 @@ impl HostState {
         ensures { (m : Stored) → Checked (take 2 (tests_of self.now m call.recover)) (λ _. Unit {0}) result }
     {
         self.awake()?;
-        if self.are_all_up() {
+        if are_all_up(&self.table) {
             return Err(Refusal::NoneDown);
         }
         Ok(())
@@ -114,7 +116,7 @@ impl HostState {
     fn committed_output(&self, process: u8, n: u64) -> Option<u64>
         ensures { result ≡ nth_output n (take (greatest_line (processes self.now.table) (family self.now.table) (λ q. (row_of self.now.table q).saved) process) (row_of self.now.table process).intervals) }
     {
-        let line = self.committed_line();
+        let line = committed_line(&self.table);
         self.table.row(process)?.output(entry(&line, process), n)
     }
 

@@ -79,7 +79,7 @@ impl Refusal {
         }
     }
 
-    // The position of the argument, or the store's record count, or 0.
+    // The position of the argument, or the store's record count, or 0. A match, since each case has a value of its own.
     pub fn place(self) -> u64
         ensures { result ≡ (refusal self).place }
     {

@@ -8,6 +8,7 @@ use std::test::Fail;
 use stores::fault::Fault;
 use stores::store::Store;
 
+// This and `dies` stand in the tests of stores too: a crate for a few lines would be no plainer.
 fn reads<S: Store>(rt: &impl Abort, store: &S, i: u64, expected: Record) -> Result<(), Fail> {
     let mut place = samples::line(99);
     store.read(i, &mut place)?;

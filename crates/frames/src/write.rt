@@ -117,6 +117,7 @@ impl Pen<'_> {
         ensures puts { Puts self.old (sends_part sends) self.new }
     {
         match sends {
+            // the count and, below, the flag are numbers of the format
             Sends::Nothing => self.put(&[0; 19]),
             Sends::One(m) => {
                 self.put(&[1]);

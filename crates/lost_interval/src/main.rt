@@ -30,6 +30,7 @@ impl Processes {
         } else {
             self.table.delivery_vector(source, process, message)
         };
+        // by its number, as `Table` says
         let row = &mut self.table.rows[process as usize];
         let (state, sends, output) = Orders.step(process, row.state(), source, message.value);
         let index = row.count() + 1;
@@ -52,18 +53,16 @@ impl Processes {
     }
 
     fn deliver(&mut self, source: u8, target: u8) -> Result<(), RowFull> {
-        match self.table.next_waiting(source, target) {
-            Some(message) => self.begin(target, source, message),
-            None => Ok(()),
-        }
+        let Some(message) = self.table.next_waiting(source, target) else {
+            return Ok(());
+        };
+        self.begin(target, source, message)
     }
 
     fn crash(&mut self, process: u8) {
-        self.table.change_rows(|p, row| {
-            if p == process {
-                row.crash();
-            }
-        });
+        if process < 8 {
+            self.table.rows[process as usize].crash();
+        }
     }
 
     // How many intervals each process has.

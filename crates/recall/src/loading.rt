@@ -39,6 +39,7 @@ fn note(table: &mut Table, content: Content)
     match content {
         Content::Interval(x) => {
             if x.process < table.processes() {
+                // by its number: of what `get_mut` lends the proof knows nothing after the change
                 let rows = &mut table.rows;
                 let _ = rows[x.process as usize].push(x);
             }

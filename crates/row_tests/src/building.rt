@@ -1,7 +1,6 @@
 // Tables that the tests are made of.
 use programs::values::{OUTSIDE, State};
 use records::Interval;
-use std::process::Abort;
 use std::test::Fail;
 use tables::table::Table;
 
@@ -10,15 +9,8 @@ pub(crate) fn empty(count: u8) -> Table {
 }
 
 // One more interval of `process`, of which only the source and the sent-at matter.
-pub(crate) fn take(
-    rt: &impl Abort,
-    table: &mut Table,
-    process: u8,
-    source: u8,
-    sent_at: u8,
-) -> Result<(), Fail> {
+pub(crate) fn take(table: &mut Table, process: u8, source: u8, sent_at: u8) -> Result<(), Fail> {
     add(
-        rt,
         table,
         process,
         Interval {
@@ -29,29 +21,21 @@ pub(crate) fn take(
     )
 }
 
-pub(crate) fn take_input(rt: &impl Abort, table: &mut Table, process: u8) -> Result<(), Fail> {
-    take(rt, table, process, OUTSIDE, 0)
+pub(crate) fn take_input(table: &mut Table, process: u8) -> Result<(), Fail> {
+    take(table, process, OUTSIDE, 0)
 }
 
 // One more interval of `process`, under its process and index.
-pub(crate) fn add(
-    rt: &impl Abort,
-    table: &mut Table,
-    process: u8,
-    x: Interval,
-) -> Result<(), Fail> {
+pub(crate) fn add(table: &mut Table, process: u8, x: Interval) -> Result<(), Fail> {
     if process >= 8 {
         return Err(Fail::new("there are eight rows"));
     }
     let row = &mut table.rows[process as usize];
     let index = row.count() + 1;
-    assert!(rt;
-        row.push(Interval {
-            process,
-            index,
-            ..x
-        })
-        .is_ok()
-    );
+    row.push(Interval {
+        process,
+        index,
+        ..x
+    })?;
     Ok(())
 }

@@ -11,10 +11,10 @@ use tables::table::Table;
 #[test]
 fn a_lost_interval_makes_orphans(rt: HostRuntime) -> Result<(), Fail> {
     let mut table = empty(3);
-    take_input(&rt, &mut table, 1)?;
-    take_input(&rt, &mut table, 0)?;
-    take(&rt, &mut table, 1, 0, 1)?;
-    take(&rt, &mut table, 2, 1, 2)?;
+    take_input(&mut table, 1)?;
+    take_input(&mut table, 0)?;
+    take(&mut table, 1, 0, 1)?;
+    take(&mut table, 2, 1, 2)?;
     for (counts, line) in [
         ([1, 2, 1, 0, 0, 0, 0, 0], [1, 2, 1, 0, 0, 0, 0, 0]),
         ([1, 0, 1, 0, 0, 0, 0, 0], [1, 0, 0, 0, 0, 0, 0, 0]),
@@ -34,9 +34,9 @@ fn a_chain_through_all_processes(rt: HostRuntime) -> Result<(), Fail> {
     for count in 1..9u8 {
         let mut table = empty(count);
         for p in 0..count - 1 {
-            take(&rt, &mut table, p, p + 1, 1)?;
+            take(&mut table, p, p + 1, 1)?;
         }
-        take_input(&rt, &mut table, count - 1)?;
+        take_input(&mut table, count - 1)?;
         let mut counts = [1; 8];
         counts[count as usize - 1] = 0;
         assert_eq!(rt; greatest_line(&table, &counts), [0; 8]);
@@ -50,12 +50,12 @@ fn a_chain_through_all_processes(rt: HostRuntime) -> Result<(), Fail> {
 #[test]
 fn a_domino_effect(rt: HostRuntime) -> Result<(), Fail> {
     let mut table = empty(2);
-    take_input(&rt, &mut table, 0)?;
+    take_input(&mut table, 0)?;
     for i in 1..96u8 {
-        take(&rt, &mut table, 1, 0, i)?;
-        take(&rt, &mut table, 0, 1, i)?;
+        take(&mut table, 1, 0, i)?;
+        take(&mut table, 0, 1, i)?;
     }
-    take(&rt, &mut table, 1, 0, 96)?;
+    take(&mut table, 1, 0, 96)?;
     assert_eq!(rt;
         greatest_line(&table, &[96, 96, 0, 0, 0, 0, 0, 0]),
         [96, 96, 0, 0, 0, 0, 0, 0]
@@ -72,9 +72,9 @@ fn a_domino_effect(rt: HostRuntime) -> Result<(), Fail> {
 #[test]
 fn own_messages(rt: HostRuntime) -> Result<(), Fail> {
     let mut table = empty(1);
-    take_input(&rt, &mut table, 0)?;
-    take(&rt, &mut table, 0, 0, 1)?;
-    take(&rt, &mut table, 0, 0, 9)?;
+    take_input(&mut table, 0)?;
+    take(&mut table, 0, 0, 1)?;
+    take(&mut table, 0, 0, 9)?;
     assert_eq!(rt; greatest_line(&table, &[255; 8]), [2, 0, 0, 0, 0, 0, 0, 0]);
     assert_eq!(rt; greatest_line(&table, &[1; 8]), [1, 0, 0, 0, 0, 0, 0, 0]);
     Ok(())
@@ -85,7 +85,7 @@ fn own_messages(rt: HostRuntime) -> Result<(), Fail> {
 fn sources_that_do_not_exist(rt: HostRuntime) -> Result<(), Fail> {
     let mut table = empty(2);
     for source in [OUTSIDE, 2, 7, 255] {
-        take(&rt, &mut table, 0, source, 50)?;
+        take(&mut table, 0, source, 50)?;
     }
     assert_eq!(rt; greatest_line(&table, &[255; 8]), [4, 0, 0, 0, 0, 0, 0, 0]);
     Ok(())
@@ -111,16 +111,7 @@ fn highest(table: &Table, counts: [u8; 8]) -> [u8; 8] {
                     && b <= counts[1].min(table.rows[1].count())
                     && c <= counts[2].min(table.rows[2].count());
                 if within && consistent(table, line) {
-                    best = [
-                        a.max(best[0]),
-                        b.max(best[1]),
-                        c.max(best[2]),
-                        0,
-                        0,
-                        0,
-                        0,
-                        0,
-                    ];
+                    best = array::from_fn(|p| line[p].max(best[p]));
                 }
             }
         }
@@ -143,7 +134,7 @@ fn against_all_lines_of_small_tables(rt: HostRuntime) -> Result<(), Fail> {
         for p in 0..3u8 {
             for _ in 0..next_random(&mut seed) % 4 {
                 let source = next_random(&mut seed) % 4;
-                take(&rt, &mut table, p, source, next_random(&mut seed) % 5)?;
+                take(&mut table, p, source, next_random(&mut seed) % 5)?;
             }
         }
         let counts = [

@@ -27,7 +27,7 @@ fn taken(table: &Table, source: u8, process: u8) -> u8 {
 }
 
 // Process 0 sends twice to 1 in one interval, then to 0 and to 1, then once to itself.
-fn sender(rt: &impl Abort) -> Result<Table, Fail> {
+fn sender() -> Result<Table, Fail> {
     let mut table = empty(2);
     for sends in [
         Sends::Two(send(1, 10), send(1, 11)),
@@ -35,7 +35,6 @@ fn sender(rt: &impl Abort) -> Result<Table, Fail> {
         Sends::One(send(0, 30)),
     ] {
         add(
-            rt,
             &mut table,
             0,
             Interval {
@@ -50,10 +49,10 @@ fn sender(rt: &impl Abort) -> Result<Table, Fail> {
 
 #[test]
 fn two_sends_to_one_target_in_order(rt: HostRuntime) -> Result<(), Fail> {
-    let mut table = sender(&rt)?;
+    let mut table = sender()?;
     for wanted in [(10, 1), (11, 1), (21, 2)] {
         assert_eq!(rt; next(&table, 0, 1), Some(wanted));
-        take(&rt, &mut table, 1, 0, wanted.1)?;
+        take(&mut table, 1, 0, wanted.1)?;
     }
     assert_eq!(rt; next(&table, 0, 1), None);
     Ok(())
@@ -61,18 +60,18 @@ fn two_sends_to_one_target_in_order(rt: HostRuntime) -> Result<(), Fail> {
 
 #[test]
 fn a_process_sends_to_itself(rt: HostRuntime) -> Result<(), Fail> {
-    let mut table = sender(&rt)?;
+    let mut table = sender()?;
     assert_eq!(rt; next(&table, 0, 0), Some((20, 2)));
-    take(&rt, &mut table, 0, 0, 2)?;
+    take(&mut table, 0, 0, 2)?;
     assert_eq!(rt; next(&table, 0, 0), Some((30, 3)));
-    take(&rt, &mut table, 0, 0, 3)?;
+    take(&mut table, 0, 0, 3)?;
     assert_eq!(rt; next(&table, 0, 0), None);
     Ok(())
 }
 
 #[test]
 fn nothing_waits_where_no_process_is(rt: HostRuntime) -> Result<(), Fail> {
-    let table = sender(&rt)?;
+    let table = sender()?;
     for (source, target) in [(1, 0), (1, 1), (0, 2), (2, 0), (9, 0), (255, 255)] {
         assert_eq!(rt; next(&table, source, target), None);
     }
@@ -81,12 +80,12 @@ fn nothing_waits_where_no_process_is(rt: HostRuntime) -> Result<(), Fail> {
 
 #[test]
 fn input_numbers_count_inputs_alone(rt: HostRuntime) -> Result<(), Fail> {
-    let mut table = sender(&rt)?;
+    let mut table = sender()?;
     assert_eq!(rt; next_input(&table, 0), 4);
-    take(&rt, &mut table, 0, 0, 2)?;
+    take(&mut table, 0, 0, 2)?;
     assert_eq!(rt; next_input(&table, 0), 4);
     assert_eq!(rt; taken(&table, 0, 0), 1);
-    take_input(&rt, &mut table, 0)?;
+    take_input(&mut table, 0)?;
     assert_eq!(rt; next_input(&table, 0), 5);
     assert_eq!(rt; next_input(&table, 1), 1);
     Ok(())
@@ -102,7 +101,6 @@ fn vectors_join_what_was_known(rt: HostRuntime) -> Result<(), Fail> {
         (1, [3, 1, 0, 0, 0, 0, 0, 0]),
     ] {
         add(
-            &rt,
             &mut table,
             process,
             Interval {

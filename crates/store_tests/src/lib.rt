@@ -42,7 +42,7 @@ mod tests {
         }
     }
 
-    // This and `dies` stand in the tests of frames too: a crate for both would be no plainer.
+    // This, `reads` and `dies` stand in the tests of frames too: a crate for three helpers of a few lines would be no plainer.
     fn line(entry: u8) -> Record {
         Record {
             content: Content::Line([entry, 0, 0, 0, 0, 0, 0, 96]),

@@ -5,7 +5,7 @@ ghost use Rattle.lines.specs.Intervals.{vector_after, merged};
 use records::Interval;
 use std::array;
 
-// The vector of the last interval; zeros at the start.
+// The vector of the last interval; zeros at the start. A `match`: as a `map_or` the proof didn't close.
 fn last_vector(xs: &[Interval]) -> [u8; 8]
     ensures { result ≡ vector_after xs.now }
 {

@@ -40,7 +40,7 @@ impl<'a> Lowering<'a> {
         Lowering {
             table,
             line: clip(table, counts),
-            // no line comes up to 255, so that each row is read once
+            // no line comes up to 255, so that each row is read once; an `Option` would have to be opened at each entry, and is no plainer
             needs: [[255; 8]; 8],
         }
     }

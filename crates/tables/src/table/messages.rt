@@ -19,6 +19,7 @@ impl Table {
     pub fn next_waiting(&self, source: u8, target: u8) -> Option<Waiting>
         ensures { option_map as_message result ≡ slice_get (waiting (family self.now) source target) 0 }
     {
+        // as `Row::taken` counts; what is no process has no row but has taken none, so that this is the plainer
         let taken = count_from(self.intervals(target), source);
         sent_after(self.intervals(source), target, taken)
     }
