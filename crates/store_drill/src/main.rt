@@ -9,8 +9,19 @@ use drill::{Loss, cut_power, restore};
 use records::Record;
 use samples::{LINE, MARK, SENT, TAKEN};
 use std::io;
+use stores::fault::Fault;
 use stores::slots::SlotStore;
 use stores::store::Store;
+use thiserror::Error;
+
+// Why the drill stops. What is printed of it is the case and its error in full, as `Debug` writes them.
+#[derive(Debug, Drop, Error)]
+enum Stop {
+    #[error(transparent)]
+    Printing(#[from] io::Error),
+    #[error(transparent)]
+    Refused(#[from] Fault),
+}
 
 fn held<S: Store>(rt: &HostRuntime, store: &S) -> io::Result<()> {
     let count = store.count();
@@ -20,7 +31,7 @@ fn held<S: Store>(rt: &HostRuntime, store: &S) -> io::Result<()> {
 }
 
 // Two records are made safe, two more written, and the power goes before those are.
-fn show<S: Store>(rt: &HostRuntime, name: &str, store: &mut S, j: u64) -> anyhow::Result<()> {
+fn show<S: Store>(rt: &HostRuntime, name: &str, store: &mut S, j: u64) -> Result<(), Stop> {
     let free = store.free_slots();
     println!(rt; "{name} with room for {free} records")?;
     store.append(SENT)?;
@@ -42,17 +53,17 @@ fn show<S: Store>(rt: &HostRuntime, name: &str, store: &mut S, j: u64) -> anyhow
     Ok(())
 }
 
-fn show_slots(rt: &HostRuntime, j: u64) -> anyhow::Result<()> {
+fn show_slots(rt: &HostRuntime, j: u64) -> Result<(), Stop> {
     let mut slots = [Record::EMPTY; 8];
     show(rt, "slot store", &mut SlotStore::new(&mut slots), j)
 }
 
-fn show_bytes(rt: &HostRuntime, j: u64) -> anyhow::Result<()> {
+fn show_bytes(rt: &HostRuntime, j: u64) -> Result<(), Stop> {
     let mut bytes = [0; 424];
     show(rt, "byte store", &mut ByteStore::new(&mut bytes), j)
 }
 
-fn main(rt: HostRuntime) -> anyhow::Result<()> {
+fn main(rt: HostRuntime) -> Result<(), Stop> {
     for j in [0, 1, 2, 9] {
         show_slots(&rt, j)?;
     }
