@@ -1,7 +1,7 @@
 -- The searches by number: what comes at a place of a list that is made of others.
-use Rattle.std.proofs.Common.{◌≡◌, ℕ, zero, suc, ◌+◌, ◌-◌, ◌<◌, ◌≤◌, eqb, List, [], ◌∷◌, ◌++◌, length, get_or, drop, Some, None, Option, filter, sym, refl, ap, ◌∙◌, arith}
-use Rattle.std.specs.Option.{option_map, option_to_list}
-use Rattle.std.specs.List.{cons_option, flat_map, filter_map, slice_get}
+use Rattle.std.proofs.Common.{◌≡◌, ℕ, zero, suc, ◌+◌, ◌-◌, ◌<◌, ◌≤◌, eqb, List, [], ◌∷◌, ◌++◌, length, get_or, drop, Some, None, filter, sym, refl, ap, ◌∙◌, arith}
+use Rattle.std.specs.Option.{option_map}
+use Rattle.std.specs.List.{flat_map, slice_get}
 use Rattle.std.proofs.lemmas.Option.{slice_get-map}
 use Rattle.std.proofs.lemmas.List.{at_drop_more, at_drop_all, length-map}
 use Rattle.programs.specs.Values.{listed}
@@ -9,8 +9,7 @@ use Rattle.programs.specs.declared.values.Send.{Send}
 use Rattle.programs.specs.declared.values.Sends.{Sends}
 use Rattle.programs.specs.declared.values.Sends.TheVariants.{Nothing}
 use Rattle.records.specs.declared.Interval.{Interval}
-use Rattle.lines.specs.Intervals.{sent_in, outputs}
-use Rattle.rows.specs.Outputs.{nth_output}
+use Rattle.lines.specs.Intervals.{sent_in}
 
 -- any interval, where a read wants one
 abbrev pub blank : Interval
@@ -45,19 +44,6 @@ module _ {X A : Type 0} (f : X → List A) (xs : List X) (i : ℕ) (left : ℕ) 
 
   pub search_none : length xs ≤ i → slice_get (flat_map f (drop i xs)) left ≡ None
   search_none h = at_drop_all (λ ys. slice_get (flat_map f ys) left) xs i h
-
-pub outputs_filtered : (xs : List Interval) → filter_map (λ (x : Interval). x.output) xs ≡ outputs xs
-outputs_filtered [] = refl
-outputs_filtered (x ∷ xs) = go x.output (outputs_filtered xs)
-  where
-    go : (o : Option ℕ) {ys zs : List ℕ} → ys ≡ zs → cons_option o ys ≡ option_to_list o ++ zs
-    go None e = e
-    go (Some v) e = ap (λ zs. v ∷ zs) e
-
--- the outputs are counted from 1
-pub nth_filtered : (xs : List Interval) (n : ℕ) → 1 ≤ n → slice_get (filter_map (λ (x : Interval). x.output) xs) (n - 1) ≡ nth_output n xs
-nth_filtered xs zero h = absurd (omega arith)
-nth_filtered xs (suc n) h = let e : suc n - 1 ≡ n = omega arith in ap (slice_get (filter_map (λ (x : Interval). x.output) xs)) e ∙ ap (λ ys. slice_get ys n) (outputs_filtered xs)
 
 -- what an interval sends to t, where r has those sends
 module _ (t : ℕ) (x : Interval) (r : Sends) (same : listed r ≡ filter (λ m. eqb m.target t) (listed x.sends)) where

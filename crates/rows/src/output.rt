@@ -1,19 +1,28 @@
 // The search for an output by its number.
 ghost use Rattle.std.specs.Prelude.{◌≡◌};
-ghost use Rattle.std.specs.List.{slice_get, filter_map};
+ghost use Rattle.std.specs.List.{slice_get};
+ghost use Rattle.lines.specs.Intervals.{outputs};
 ghost use Rattle.rows.specs.Outputs.{nth_output};
 
 use records::Interval;
 
-// The output that `skip` others come before.
+// The output that `skip` others come before. A loop: a chain to the `skip`-th takes half as long again, and more.
 fn output_after(xs: &[Interval], skip: u64) -> Option<u64>
-    ensures { result ≡ slice_get (filter_map (λ x. x.output) xs.now) skip }
+    ensures { result ≡ slice_get (outputs xs.now) skip }
 {
-    xs.iter().filter_map(|x| x.output).nth(skip as usize)
+    let mut left = skip;
+    for x in xs {
+        if let Some(value) = x.output {
+            if left == 0 {
+                return Some(value);
+            }
+            left -= 1;
+        }
+    }
+    None
 }
 
 // The `n`-th output, counted from 1.
-#[tactic(auto, using(crate::proofs::Finding::nth_filtered))]
 pub(crate) fn nth_output(xs: &[Interval], n: u64) -> Option<u64>
     ensures { result ≡ nth_output n xs.now }
 {

