@@ -18,7 +18,12 @@ pub fn read_frame(bytes: &[u8], at: usize) -> Option<Record>
     let record = candidate(rest);
     let mut again = [0; LARGEST];
     let size = write_frame(&mut again, 0, &record)?;
-    rest.starts_with(&again[..size]).then_some(record)
+    // by an `if`: `then_some` would copy the record before the test
+    if rest.starts_with(&again[..size]) {
+        Some(record)
+    } else {
+        None
+    }
 }
 
 // The places are those of the frame, written out: a struct of bytes and place would have to move between them and shows them no plainer.

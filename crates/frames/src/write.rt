@@ -62,8 +62,9 @@ fn checkpoint_bytes(x: &Checkpoint) -> [u8; 2]
 }
 
 // Writes the frame of `record` at `at`, and answers the place behind it. Where it does not fit,
-// nothing is written. It is inlined with the pen's two ways through a record, so that a caller that
-// knows the kind of its record writes that kind alone.
+// nothing is written. It is inlined with the pen's ways through a record, its interval and its
+// checkpoint, so that a caller that knows the kind of its record writes that kind alone, and the
+// pen's place is no memory: without that an append of an interval takes twice as long.
 #[inline(always)]
 pub fn write_frame(out: &mut [u8], at: usize, record: &Record) -> Option<usize>
     ensures { MatchOption result ((length out.old < at + size «record».now) × (out.new ≡ out.old)) (λ end. Typed «record».now × Wrote out.old at (framed «record».now) out.new end) }
@@ -146,6 +147,7 @@ impl Pen<'_> {
         }
     }
 
+    #[inline(always)]
     fn put_interval(&mut self, x: &Interval)
         requires { self.old.at + 48 ≤ length self.old.out.now }
         ensures typed { Held (interval x.now) }
@@ -158,6 +160,7 @@ impl Pen<'_> {
         self.put(&x.vector);
     }
 
+    #[inline(always)]
     fn put_checkpoint(&mut self, x: &Checkpoint)
         requires { self.old.at + 34 ≤ length self.old.out.now }
         ensures typed { Held (checkpoint x.now) }
