@@ -6,7 +6,7 @@ ghost use Rattle.rows.specs.Outputs.{nth_output};
 
 use records::Interval;
 
-// The output that `skip` others come before. A loop: a chain to the `skip`-th takes up to three times as long.
+// The output that `skip` others come before. A loop: a chain to the `skip`-th takes up to three and a half times as long.
 fn output_after(xs: &[Interval], skip: u64) -> Option<u64>
     ensures { result ≡ slice_get (outputs xs.now) skip }
 {

@@ -4,7 +4,7 @@ ghost use Rattle.lines.specs.Intervals.{taken};
 
 use records::Interval;
 
-// A loop: a filter with a count takes two to sixteen times as long, the more mixed the sources the longer, and a sum of ones six times.
+// A loop: a filter with a count takes two to nineteen times as long, the more mixed the sources the longer, and a sum of ones six times.
 pub fn count_from(xs: &[Interval], source: u8) -> usize
     ensures value { result ≡ taken source xs.now }
     ensures bound { result ≤ length xs.now }
